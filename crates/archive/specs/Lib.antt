@@ -1,0 +1,6 @@
+pub mod Contents
+pub mod Packed
+pub mod Held
+pub mod Sums
+pub mod Intake
+pub mod Listing
