@@ -8,3 +8,7 @@ pub mod Zoning
 pub mod Growing
 pub mod Lines
 pub mod Listed
+pub mod Reading
+pub mod Taking
+pub mod Answered
+pub mod Again

@@ -76,7 +76,8 @@ module _ (k : Kind) (d h : ℕ) where
     summed-skip sums all out p = record {
       many = p .many;
       each = λ s b. p .each s b ∙ sym (sum-step (s + 1) ∙ ap (λ z. sumOf k d h (s + 1) (take i rs) +ℤ z) (portion-out k d h (s + 1) r out) ∙ +ℤ-idr _);
-      zone = p .zone ∙ sym (zone-step ∙ ap (λ z. hourSum k d h (take i rs) +ℤ z) (cond-false (inHour k d h r) (r .amount) (pos 0) out) ∙ +ℤ-idr _) }
+      zone = p .zone ∙ sym (zone-step ∙ ap (λ z. hourSum k d h (take i rs) +ℤ z) (cond-false (inHour k d h r) (r .amount) (pos 0) out) ∙ +ℤ-idr _);
+    }
 
     pub summed-add : (sums : List ℤ) (all x y : ℤ) → inHour k d h r ≡ true → Lawful r → x ≡ getD sums (r .supplier - 1) (pos 0) +ℤ r .amount → y ≡ all +ℤ r .amount → Summed sums all (take i rs) → Summed (set sums (r .supplier - 1) x) y (take (i + 1) rs)
     summed-add sums all x y inside law ex ey p =
@@ -85,12 +86,13 @@ module _ (k : Kind) (d h : ℕ) where
         record {
           many = length-set sums j x ∙ p .many;
           each = λ s b.
-            let old : ℤ = sumOf k d h (s + 1) (take i rs) in
-            ⊎-elim
-            (λ same. ap (λ n. getD (set sums j x) n (pos 0)) same ∙ getD-set-same sums j x (pos 0) (omega (arith, p .many)) ∙ ex ∙ ap (λ n. getD sums n (pos 0) +ℤ r .amount) (sym same) ∙ ap (λ z. z +ℤ r .amount) (p .each s b) ∙ ap (λ z. old +ℤ z) (sym (portion-in k d h (s + 1) r inside (omega arith))) ∙ sym (sum-step (s + 1)))
-            (λ apart. getD-set-other sums j s x (pos 0) apart ∙ p .each s b ∙ sym (sum-step (s + 1) ∙ ap (λ z. old +ℤ z) (portion-other k d h (s + 1) r (λ w. apart (omega arith))) ∙ +ℤ-idr _))
-            (cases-eq s j);
-          zone = ey ∙ ap (λ z. z +ℤ r .amount) (p .zone) ∙ ap (λ z. hourSum k d h (take i rs) +ℤ z) (sym (cond-true (inHour k d h r) (r .amount) (pos 0) inside)) ∙ sym zone-step }
+              let old : ℤ = sumOf k d h (s + 1) (take i rs) in
+              ⊎-elim
+              (λ same. ap (λ n. getD (set sums j x) n (pos 0)) same ∙ getD-set-same sums j x (pos 0) (omega (arith, p .many)) ∙ ex ∙ ap (λ n. getD sums n (pos 0) +ℤ r .amount) (sym same) ∙ ap (λ z. z +ℤ r .amount) (p .each s b) ∙ ap (λ z. old +ℤ z) (sym (portion-in k d h (s + 1) r inside (omega arith))) ∙ sym (sum-step (s + 1)))
+              (λ apart. getD-set-other sums j s x (pos 0) apart ∙ p .each s b ∙ sym (sum-step (s + 1) ∙ ap (λ z. old +ℤ z) (portion-other k d h (s + 1) r (λ w. apart (omega arith))) ∙ +ℤ-idr _))
+              (cases-eq s j);
+          zone = ey ∙ ap (λ z. z +ℤ r .amount) (p .zone) ∙ ap (λ z. hourSum k d h (take i rs) +ℤ z) (sym (cond-true (inHour k d h r) (r .amount) (pos 0) inside)) ∙ sym zone-step;
+        }
 
   -- No sum overflows: at most 1,000,000 rows of at most 3,000,000,000 each.
   module _ (rs : List Row) (all : All Lawful rs) where
@@ -122,4 +124,5 @@ module _ (k : Kind) (d h : ℕ) where
   summed-small sums zone rs i all few l p = record {
     many = p .many;
     suppliers = λ s b. rw (p .each s b) (small-abs i _ (omega arith) (sum-within rs all (s + 1) i l));
-    zone = rw (p .zone) (small-abs i _ (omega arith) (hour-within rs all i l)) }
+    zone = rw (p .zone) (small-abs i _ (omega arith) (hour-within rs all i l));
+  }

@@ -49,7 +49,11 @@ fn write(text: &[u8], out: &mut [u8]) -> Result<usize, Refusal>
 {
     let length = text.len();
     if length > out.len() {
-        return Err(Refusal { cause: Cause::TextTooLong, layer: Layer::Archive, place: 0 });
+        return Err(Refusal {
+            cause: Cause::TextTooLong,
+            layer: Layer::Archive,
+            place: 0,
+        });
     }
     out[0..length].copy_from_slice(text);
     Ok(length)

@@ -51,7 +51,10 @@ pub fn hour_sums<A: Archive>(archive: &A, kind: Kind, day: u32, hour: u32) -> Ho
     ensures small { λ r. ⌜ Small (r .suppliers) (r .zone) ⌝ }
     ensures adds { λ _. ⌜ Zone-law ⌝ }
 {
-    let mut sums = HourSums { suppliers: [0; 32], zone: 0 };
+    let mut sums = HourSums {
+        suppliers: [0; 32],
+        zone: 0,
+    };
     let count = archive.count();
     for i in 0..count {
         if let Some(row) = archive.row(i) {

@@ -19,7 +19,10 @@ impl Text {
     pub(crate) fn new() -> Self
         ensures { λ r. ⌜ r .len ≡ 0 ⌝ }
     {
-        Text { bytes: [0; 720], len: 0 }
+        Text {
+            bytes: [0; 720],
+            len: 0,
+        }
     }
 
     pub(crate) fn as_slice(&self) -> &[u8]

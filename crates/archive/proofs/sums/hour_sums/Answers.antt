@@ -28,13 +28,14 @@ loop-i-again g c =
     let rs = g .A·Archive .meaning (c .args .archive .now) .rows in
     let P : HourSums → Type 0 = λ t. Summed (c .args .kind) (c .args .day) (c .args .hour) (t .suppliers) (t .zone) (take (c .loop-i .i + 1) rs) in
     elim (c .match-row .came) [
-      in-Some·then-is-in-hour w ↦
-        let read = w .in-Some .ensures tt in
-        let t = summed-add (c .args .kind) (c .args .day) (c .args .hour) rs (c .loop-i .i) (w .in-Some .row) read (c .loop-i .sums .suppliers) (c .loop-i .sums .zone) _ _ (sym (w .if-is-in-hour .ensures tt)) (read-lawful rs (c .loop-i .i) (w .in-Some .row) read (c .count-count .ensures .lawful)) refl refl (c .loop-i .inv) in
-        subst P (sym (w .sums-is)) (rw (w .add .ensures .suppliers, w .add .ensures .zone) t)
-    | in-Some·else-is-in-hour w ↦
-        subst P (sym (w .sums-is)) (summed-skip (c .args .kind) (c .args .day) (c .args .hour) rs (c .loop-i .i) (w .in-Some .row) (w .in-Some .ensures tt) (c .loop-i .sums .suppliers) (c .loop-i .sums .zone) (sym (w .if-is-in-hour .ensures tt)) (c .loop-i .inv))
-    | in-rest w ↦ absurd (row-there rs (c .loop-i .i) (omega (arith, c .count-count .ensures .answer)) (w .in-rest .ensures tt)) ]
+      | in-Some·then-is-in-hour w ↦
+          let read = w .in-Some .ensures tt in
+          let t = summed-add (c .args .kind) (c .args .day) (c .args .hour) rs (c .loop-i .i) (w .in-Some .row) read (c .loop-i .sums .suppliers) (c .loop-i .sums .zone) _ _ (sym (w .if-is-in-hour .ensures tt)) (read-lawful rs (c .loop-i .i) (w .in-Some .row) read (c .count-count .ensures .lawful)) refl refl (c .loop-i .inv) in
+          subst P (sym (w .sums-is)) (rw (w .add .ensures .suppliers, w .add .ensures .zone) t)
+      | in-Some·else-is-in-hour w ↦
+          subst P (sym (w .sums-is)) (summed-skip (c .args .kind) (c .args .day) (c .args .hour) rs (c .loop-i .i) (w .in-Some .row) (w .in-Some .ensures tt) (c .loop-i .sums .suppliers) (c .loop-i .sums .zone) (sym (w .if-is-in-hour .ensures tt)) (c .loop-i .inv))
+      | in-rest w ↦ absurd (row-there rs (c .loop-i .i) (omega (arith, c .count-count .ensures .answer)) (w .in-rest .ensures tt))
+    ]
 
 pub returns : need.returns
 returns g c =
