@@ -1,0 +1,4 @@
+pub mod Ranges
+pub mod Loads
+pub mod Lines
+pub mod Peaks

@@ -1,0 +1,13 @@
+//! The arithmetic of settlement: units, lines and their loads, sharing, and the arrangements by which
+//! unaccounted energy is parted.
+pub mod lines;
+mod loads;
+pub mod peaks;
+mod ranges;
+pub mod units;
+
+pub use lines::Line;
+pub use peaks::PeakLine;
+pub use ranges::MISSING;
+pub use units::Energy;
+pub use units::Power;
