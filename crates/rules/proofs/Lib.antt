@@ -1,2 +1,5 @@
 pub mod Products
 pub mod Figured
+pub mod Shares
+pub mod Serving
+pub mod Weighing

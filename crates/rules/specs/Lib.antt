@@ -2,3 +2,5 @@ pub mod Ranges
 pub mod Loads
 pub mod Lines
 pub mod Peaks
+pub mod Shares
+pub mod Pots

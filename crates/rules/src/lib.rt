@@ -4,10 +4,15 @@ pub mod lines;
 mod loads;
 pub mod peaks;
 mod ranges;
+pub mod sharing;
 pub mod units;
 
 pub use lines::Line;
 pub use peaks::PeakLine;
 pub use ranges::MISSING;
+pub use sharing::MOST;
+pub use sharing::Weighted;
+pub use sharing::share;
+pub use sharing::weigh;
 pub use units::Energy;
 pub use units::Power;
