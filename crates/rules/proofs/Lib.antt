@@ -3,3 +3,4 @@ pub mod Figured
 pub mod Shares
 pub mod Serving
 pub mod Weighing
+pub mod Portions

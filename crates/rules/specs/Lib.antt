@@ -4,3 +4,5 @@ pub mod Lines
 pub mod Peaks
 pub mod Shares
 pub mod Pots
+pub mod Parts
+pub mod Percents

@@ -32,3 +32,12 @@ figuredLoad (Profiled account loss profile billed usage) = profiledLoad loss pro
 -- The load of a line. One that meets a cause by itself has none.
 abbrev pub loadOf : Line → ℕ
 loadOf l = cond (inRange l && usageInRange l) (figuredLoad l) 0
+
+-- what a line weighs among the interval lines, and what among the profiled ones
+abbrev pub intervalWeight : Line → ℕ
+intervalWeight (Interval account loss reading) = loadOf (Interval account loss reading)
+intervalWeight (Profiled account loss profile billed usage) = 0
+
+abbrev pub profiledWeight : Line → ℕ
+profiledWeight (Interval account loss reading) = 0
+profiledWeight (Profiled account loss profile billed usage) = loadOf (Profiled account loss profile billed usage)

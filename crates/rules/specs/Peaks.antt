@@ -84,3 +84,7 @@ weightOn l (Some b) = cond (inRangeOn l b && usageFitsOn b) (averageLoad (l .«l
 -- The weight of a line. One that meets a cause by itself has none.
 abbrev pub weightOf : PeakLine → ℕ
 weightOf l = weightOn l (basisOf l)
+
+-- peak lines are one group
+abbrev pub noWeight : PeakLine → ℕ
+noWeight l = 0

@@ -1,14 +1,19 @@
 //! The arithmetic of settlement: units, lines and their loads, sharing, and the arrangements by which
 //! unaccounted energy is parted.
+pub mod arrangements;
 pub mod lines;
 mod loads;
 pub mod peaks;
+pub mod percent;
 mod ranges;
 pub mod sharing;
 pub mod units;
 
+pub use arrangements::Arrangement;
+pub use arrangements::ProRata;
 pub use lines::Line;
 pub use peaks::PeakLine;
+pub use percent::Percent;
 pub use ranges::MISSING;
 pub use sharing::MOST;
 pub use sharing::Weighted;

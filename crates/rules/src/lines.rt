@@ -1,7 +1,7 @@
 //! The lines of a settle sheet.
 ghost use mathlib.Core.Path.{_≡_};
 ghost use mathlib.Core.Bool.{true};
-ghost use Rattle.rules.specs.Lines.{inRange, usageInRange, causeOf, figuredLoad, loadOf, energy};
+ghost use Rattle.rules.specs.Lines.{inRange, usageInRange, causeOf, figuredLoad, loadOf, intervalWeight, profiledWeight, energy};
 use crate::loads::interval_load;
 use crate::loads::profiled_load;
 use crate::ranges::is_account;
@@ -11,6 +11,7 @@ use crate::ranges::is_profile_usage;
 use crate::ranges::is_reading;
 use crate::ranges::is_usage;
 use crate::ranges::usage_fits;
+use crate::sharing::Weighted;
 use crate::units::Energy;
 use refusals::Cause;
 
@@ -112,5 +113,27 @@ impl Line {
         } else {
             Energy(0)
         }
+    }
+}
+
+/// Interval lines are the first group and profiled lines the second, each weighed by its load.
+pub impl Weighted for Line as LineWeights {
+    type Unit = Energy;
+
+    ghost inFirst = { intervalWeight };
+
+    ghost inSecond = { profiledWeight };
+
+    ghost amounts = { energy };
+
+    fn weights(&self) -> (u64, u64) {
+        match self {
+            Line::Interval { .. } => (self.load().0, 0),
+            Line::Profiled { .. } => (0, self.load().0),
+        }
+    }
+
+    fn amount(n: u64) -> Energy {
+        Energy(n)
     }
 }

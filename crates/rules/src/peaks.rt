@@ -3,7 +3,7 @@ ghost use mathlib.Core.Path.{_≡_};
 ghost use mathlib.Core.Bool.{true};
 ghost use Prim.Native.Nat.{_≤_};
 ghost use Rattle.rules.specs.Ranges.{isLossFactor};
-ghost use Rattle.rules.specs.Peaks.{basisBy, basisOf, furtherFits, usageFitsOn, figureFits, allFit, inRangeOn, peakCauseOf, figureLoad, isPresent, averageLoad, weightOf, power};
+ghost use Rattle.rules.specs.Peaks.{basisBy, basisOf, furtherFits, usageFitsOn, figureFits, allFit, inRangeOn, peakCauseOf, figureLoad, isPresent, averageLoad, weightOf, noWeight, power};
 ghost use lib.ListN.{length};
 use crate::loads::demand_load;
 use crate::loads::interval_load;
@@ -17,6 +17,7 @@ use crate::ranges::is_profile_usage;
 use crate::ranges::is_reading;
 use crate::ranges::is_usage;
 use crate::ranges::usage_fits;
+use crate::sharing::Weighted;
 use crate::units::Power;
 use refusals::Cause;
 
@@ -187,5 +188,24 @@ impl PeakLine {
         } else {
             Power(0)
         }
+    }
+}
+
+/// Peak lines are all of the first group.
+pub impl Weighted for PeakLine as PeakWeights {
+    type Unit = Power;
+
+    ghost inFirst = { weightOf };
+
+    ghost inSecond = { noWeight };
+
+    ghost amounts = { power };
+
+    fn weights(&self) -> (u64, u64) {
+        (self.weight().0, 0)
+    }
+
+    fn amount(n: u64) -> Power {
+        Power(n)
     }
 }
