@@ -6,3 +6,4 @@ pub mod Shares
 pub mod Pots
 pub mod Parts
 pub mod Percents
+pub mod Figures

@@ -8,6 +8,7 @@ pub mod percent;
 mod ranges;
 pub mod sharing;
 pub mod units;
+pub mod worked;
 
 pub use arrangements::Arrangement;
 pub use arrangements::ProRata;
@@ -21,3 +22,5 @@ pub use sharing::share;
 pub use sharing::weigh;
 pub use units::Energy;
 pub use units::Power;
+pub use worked::worked_peaks;
+pub use worked::worked_sheet;
