@@ -47,10 +47,10 @@ rest-between (negsuc n) x r =
     let s = r .side .not-above (omega (arith, ints)) in
     record { side = record { not-below = λ p. omega (arith, ints, r .small); not-above = λ p. omega (arith, ints, r .small); none = λ p. omega (arith, ints, r .small) }; small = omega (arith, ints, r .small) }
 
-nothing-between : (u : ℤ) → Between u (pos 0)
+pub nothing-between : (u : ℤ) → Between u (pos 0)
 nothing-between u = record { side = record { not-below = λ p. omega (arith, ints); not-above = λ p. omega (arith, ints); none = λ p. omega (arith, ints) }; small = omega (arith, ints) }
 
-all-between : (u : ℤ) → Between u u
+pub all-between : (u : ℤ) → Between u u
 all-between u = record { side = record { not-below = λ p. p; not-above = λ p. p; none = λ p. p }; small = omega arith }
 
 pub parted-sided : (u : ℤ) (wi wp : ℕ) (i : ℤ) → Between u i → Sided u (parted u wi wp i .0) × Sided u (parted u wi wp i .1)

@@ -32,7 +32,10 @@ pub(crate) fn profiled_load(loss: u32, profile: u32, billed: u32, usage: u32) ->
     requires usage { ⌜ isProfileUsage usage ≡ true ⌝ }
     ensures { λ r. ⌜ r ≡ profiledLoad loss profile billed usage ⌝ }
 {
-    rounded_load(profile as u64 * billed as u64 * loss as u64, usage as u64 * 10_000)
+    rounded_load(
+        profile as u64 * billed as u64 * loss as u64,
+        usage as u64 * 10_000,
+    )
 }
 
 pub(crate) fn demand_load(loss: u32, demand: u32, factor: u32) -> u64

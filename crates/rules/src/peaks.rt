@@ -39,13 +39,8 @@ pub struct PeakLine {
 #[derive(Clone, Copy)]
 enum Basis {
     Readings,
-    Profile {
-        billed: u32,
-        usage: u32,
-    },
-    Demand {
-        highest: u32,
-    },
+    Profile { billed: u32, usage: u32 },
+    Demand { highest: u32 },
 }
 
 impl Basis {
@@ -55,7 +50,10 @@ impl Basis {
         if kind == 1 && n == 0 && m == 0 {
             Some(Basis::Readings)
         } else if kind == 2 {
-            Some(Basis::Profile { billed: n, usage: m })
+            Some(Basis::Profile {
+                billed: n,
+                usage: m,
+            })
         } else if kind == 3 && m == 0 {
             Some(Basis::Demand { highest: n })
         } else {

@@ -140,6 +140,11 @@ pub fn share<L: Weighted>(
         });
     }
     let (first_whole, second_whole) = weigh(lines)?;
-    serve_all(Pot::new(first, first_whole), Pot::new(second, second_whole), lines, list);
+    serve_all(
+        Pot::new(first, first_whole),
+        Pot::new(second, second_whole),
+        lines,
+        list,
+    );
     Ok(())
 }

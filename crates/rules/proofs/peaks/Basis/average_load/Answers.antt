@@ -38,19 +38,19 @@ loop-figure-again c =
     let small = load-small (c .args .loss) b (getD xs i 0) (c .pre .loss) (c .pre .further) fits in
     elim (c .if-has .came) [
       | then-has w ↦
-        let passes = sym (w .if-has .ensures tt) in (
-          omega (arith, w .total-is, w .load-total .ensures, sum-kept-more (isPresent b) xs i h f passes),
-          omega (arith, w .number-is, number-kept-more (isPresent b) xs i h passes),
-          omega (arith, w .total-is, w .load-total .ensures, small),
-          omega (arith, w .number-is),
-        )
+          let passes = sym (w .if-has .ensures tt) in (
+            omega (arith, w .total-is, w .load-total .ensures, sum-kept-more (isPresent b) xs i h f passes),
+            omega (arith, w .number-is, number-kept-more (isPresent b) xs i h passes),
+            omega (arith, w .total-is, w .load-total .ensures, small),
+            omega (arith, w .number-is),
+          )
       | else-has w ↦
-        let same = kept-same (isPresent b) xs i h (sym (w .if-has .ensures tt)) in (
-          w .total-is ∙ c .loop-figure .inv .0 ∙ sym (ap (sumBy f) same),
-          w .number-is ∙ c .loop-figure .inv .1 ∙ sym (ap length same),
-          omega (arith, w .total-is),
-          omega (arith, w .number-is),
-        )
+          let same = kept-same (isPresent b) xs i h (sym (w .if-has .ensures tt)) in (
+            w .total-is ∙ c .loop-figure .inv .0 ∙ sym (ap (sumBy f) same),
+            w .number-is ∙ c .loop-figure .inv .1 ∙ sym (ap length same),
+            omega (arith, w .total-is),
+            omega (arith, w .number-is),
+          )
     ]
 
 pub returns-then-number-eq0 : need.returns-then-number-eq0
