@@ -27,6 +27,10 @@ pub enum Cause {
     UsageTooHigh = 22,
     /// Loads or weights that sum above 3,000,000,000.
     LoadsTooHigh = 23,
+    /// A total other than 0 for a group of load 0.
+    UnloadedGroup = 24,
+    /// A group total below 0.
+    NegativeTotal = 25,
     /// More rows than free places in the archive.
     ArchiveFull = 27,
     /// Bytes that are not whole rows.

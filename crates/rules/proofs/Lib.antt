@@ -4,3 +4,4 @@ pub mod Shares
 pub mod Serving
 pub mod Weighing
 pub mod Portions
+pub mod Parting

@@ -7,3 +7,4 @@ pub mod Pots
 pub mod Parts
 pub mod Percents
 pub mod Figures
+pub mod Totals

@@ -7,6 +7,7 @@ pub mod peaks;
 pub mod percent;
 mod ranges;
 pub mod sharing;
+pub mod totals;
 pub mod units;
 pub mod worked;
 
@@ -20,6 +21,7 @@ pub use sharing::MOST;
 pub use sharing::Weighted;
 pub use sharing::share;
 pub use sharing::weigh;
+pub use totals::group_totals;
 pub use units::Energy;
 pub use units::Power;
 pub use worked::worked_peaks;
