@@ -19,7 +19,9 @@ use rules::worked_sheet;
 use std::io;
 
 const ZONE_LOAD: u64 = 83_000;
+
 const UNACCOUNTED: i64 = 51;
+
 const ALLOCATION: u64 = 17_000;
 
 /// The group totals at the zone load, and the final loads of the lines.

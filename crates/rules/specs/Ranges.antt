@@ -25,7 +25,7 @@ abbrev pub isUsage : ℕ → Bool
 isUsage n = leb n 100000000
 
 abbrev pub isReading : ℕ → Bool
-isReading n = leb n 100000000 || eqb n missing
+isReading n = isUsage n || eqb n missing
 
 abbrev pub isProfileLoad : ℕ → Bool
 isProfileLoad n = leb n 1000000

@@ -27,7 +27,7 @@ pub(crate) fn is_usage(n: u32) -> bool
 pub(crate) fn is_reading(n: u32) -> bool
     ensures { λ r. ⌜ r ≡ isReading n ⌝ }
 {
-    n <= 100_000_000 || n == MISSING
+    is_usage(n) || n == MISSING
 }
 
 pub(crate) fn is_profile_load(n: u32) -> bool
