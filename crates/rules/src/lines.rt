@@ -16,7 +16,7 @@ use crate::units::Energy;
 use refusals::Cause;
 
 /// A line of a settle sheet: an account's loss factor, and the figures of its hour.
-#[derive(Clone, Copy, Debug)]
+#[derive(Clone, Copy)]
 pub enum Line {
     Interval {
         account: u32,

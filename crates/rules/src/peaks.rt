@@ -22,7 +22,7 @@ use crate::units::Power;
 use refusals::Cause;
 
 /// A line of a peak sheet. What its figures and its two further numbers are depends on its kind.
-#[derive(Clone, Copy, Debug)]
+#[derive(Clone, Copy)]
 pub struct PeakLine {
     pub account: u32,
     pub loss_factor: u32,
