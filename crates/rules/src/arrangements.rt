@@ -7,9 +7,8 @@ ghost use Rattle.rules.specs.Ranges.{most};
 ghost use Rattle.rules.specs.Parts.{canPart, portion, percentParts, proRataParts, Sided};
 ghost use Rattle.rules.specs.Percents.{percentage, madeOf};
 use crate::percent::Percent;
+use crate::refused::OUT_OF_RANGE;
 use crate::sharing::MOST;
-use refusals::Cause;
-use refusals::Layer;
 use refusals::Refusal;
 
 /// A way to part unaccounted energy. Whoever makes one has to show the laws.
@@ -63,11 +62,7 @@ impl Percent {
         if p <= 100 {
             Ok(Percent { value: p })
         } else {
-            Err(Refusal {
-                cause: Cause::OutOfRange,
-                layer: Layer::Sheet,
-                place: 0,
-            })
+            Err(OUT_OF_RANGE)
         }
     }
 }

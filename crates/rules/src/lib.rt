@@ -6,6 +6,7 @@ mod loads;
 pub mod peaks;
 pub mod percent;
 mod ranges;
+mod refused;
 pub mod sharing;
 pub mod totals;
 pub mod units;

@@ -7,8 +7,9 @@ ghost use Rattle.std.specs.shelf.Lists.{sumBy};
 ghost use Rattle.rules.specs.Ranges.{most};
 ghost use Rattle.rules.specs.Shares.{upTo, finals, weighed, sharing, shared, Sharing-laws};
 ghost use Rattle.rules.specs.Pots.{potAt};
-use refusals::Cause;
-use refusals::Layer;
+use crate::refused::LIST_TOO_SHORT;
+use crate::refused::LOADS_TOO_HIGH;
+use crate::refused::OUT_OF_RANGE;
 use refusals::Refusal;
 
 /// A line that has a weight in one of two groups, and a unit in which its share is counted.
@@ -86,11 +87,7 @@ pub fn weigh<L: Weighted>(lines: &[L]) -> Result<(u64, u64), Refusal>
     for line in lines {
         let (w, v) = line.weights();
         if w > MOST - first - second || v > MOST - first - second - w {
-            return Err(Refusal {
-                cause: Cause::LoadsTooHigh,
-                layer: Layer::Sharing,
-                place: 0,
-            });
+            return Err(LOADS_TOO_HIGH);
         }
         first += w;
         second += v;
@@ -126,18 +123,10 @@ pub fn share<L: Weighted>(
     ensures laws { λ _. ⌜ Sharing-laws ⌝ }
 {
     if first > MOST || second > MOST {
-        return Err(Refusal {
-            cause: Cause::OutOfRange,
-            layer: Layer::Sheet,
-            place: 0,
-        });
+        return Err(OUT_OF_RANGE);
     }
     if list.len() < lines.len() {
-        return Err(Refusal {
-            cause: Cause::ListTooShort,
-            layer: Layer::Sheet,
-            place: 0,
-        });
+        return Err(LIST_TOO_SHORT);
     }
     let (first_whole, second_whole) = weigh(lines)?;
     serve_all(

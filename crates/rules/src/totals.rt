@@ -7,9 +7,11 @@ ghost use Rattle.rules.specs.Ranges.{most};
 ghost use Rattle.rules.specs.Parts.{unaccounted};
 ghost use Rattle.rules.specs.Totals.{unloaded, naturals, lawfulTotals, groupTotals};
 use crate::arrangements::Arrangement;
+use crate::refused::LOADS_TOO_HIGH;
+use crate::refused::NEGATIVE_TOTAL;
+use crate::refused::OUT_OF_RANGE;
+use crate::refused::UNLOADED_GROUP;
 use crate::sharing::MOST;
-use refusals::Cause;
-use refusals::Layer;
 use refusals::Refusal;
 
 /// Zone load less the sum of the loads.
@@ -39,18 +41,10 @@ fn both_natural(first: i64, second: i64) -> Result<(u64, u64), Refusal>
     ensures { λ r. ⌜ r ≡ naturals first second ⌝ }
 {
     if first < 0 {
-        return Err(Refusal {
-            cause: Cause::NegativeTotal,
-            layer: Layer::Sharing,
-            place: 0,
-        });
+        return Err(NEGATIVE_TOTAL);
     }
     if second < 0 {
-        return Err(Refusal {
-            cause: Cause::NegativeTotal,
-            layer: Layer::Sharing,
-            place: 0,
-        });
+        return Err(NEGATIVE_TOTAL);
     }
     Ok((first as u64, second as u64))
 }
@@ -59,11 +53,7 @@ fn lawful_totals(wi: u64, wp: u64, first: i64, second: i64) -> Result<(u64, u64)
     ensures { λ r. ⌜ r ≡ lawfulTotals wi wp first second ⌝ }
 {
     if is_unloaded(wi, first) || is_unloaded(wp, second) {
-        Err(Refusal {
-            cause: Cause::UnloadedGroup,
-            layer: Layer::Sharing,
-            place: 0,
-        })
+        Err(UNLOADED_GROUP)
     } else {
         both_natural(first, second)
     }
@@ -80,18 +70,10 @@ pub fn group_totals<A: Arrangement>(
     ensures whole { λ r. ⌜ made r (λ t. t .0 + t .1 ≡ zone) ⌝ }
 {
     if zone > MOST {
-        return Err(Refusal {
-            cause: Cause::OutOfRange,
-            layer: Layer::Sheet,
-            place: 0,
-        });
+        return Err(OUT_OF_RANGE);
     }
     if interval > MOST || profiled > MOST - interval {
-        return Err(Refusal {
-            cause: Cause::LoadsTooHigh,
-            layer: Layer::Sharing,
-            place: 0,
-        });
+        return Err(LOADS_TOO_HIGH);
     }
     let u = unaccounted_for(zone, interval, profiled);
     let (i, p) = arrangement.parts(u, interval, profiled);
