@@ -1,0 +1,4 @@
+pub mod Rising
+pub mod Ranges
+pub mod Slips
+pub mod Opening

@@ -1,0 +1,7 @@
+//! The state that a settlement meets: the roster of suppliers, the book of days, and the slips of opened days.
+mod opening;
+mod ranges;
+mod slip;
+
+pub use opening::Book;
+pub use slip::Slip;
