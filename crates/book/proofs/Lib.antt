@@ -1,2 +1,4 @@
 pub mod Marks
 pub mod Rises
+pub mod Rolls
+pub mod Latest

@@ -1,0 +1,130 @@
+//! Enrol, switch and drop.
+ghost use mathlib.Core.Path.{_≡_};
+ghost use mathlib.Core.Bool.{true};
+ghost use Prim.Native.Nat.{ℕ, _+_, _<_, _≤_};
+ghost use Rattle.book.specs.Entries.{rollOf, entry, added};
+ghost use Rattle.book.specs.Calls.{hasPlace, timing, ifOk, enrolling, switching, dropping};
+use super::Entry;
+use super::Roster;
+use super::list::supplier_in;
+use crate::opening::Book;
+use crate::ranges::is_account;
+use crate::ranges::is_day;
+use crate::ranges::is_supplier;
+use crate::ranges::refused;
+use refusals::Cause;
+use refusals::Refusal;
+
+impl<'a> Roster<'a> {
+    /// Adds a supplier to an account that is not served.
+    pub fn enrol(
+        &mut self,
+        book: &Book,
+        account: u32,
+        from_day: u32,
+        supplier: u32,
+    ) -> Result<(), Refusal>
+        ensures answer { λ r. ⌜ r ≡ enrolling (now (book .entry) .«last_opened») (rollOf (now (self .entry))) account «from_day» supplier ⌝ }
+        ensures after { λ r. ⌜ rollOf (now (self .exit)) ≡ ifOk r (added (rollOf (now (self .entry))) (entry account «from_day» supplier)) (rollOf (now (self .entry))) ⌝ }
+    {
+        if !is_account(account) || !is_day(from_day) || !is_supplier(supplier) {
+            return Err(refused(Cause::OutOfRange));
+        }
+        if !self.has_place() {
+            return Err(refused(Cause::RosterFull));
+        }
+        let last = self.last_entry(account, None);
+        if supplier_in(last) != 0 {
+            return Err(refused(Cause::AlreadyServed));
+        }
+        self.add_after(
+            book,
+            last,
+            Entry {
+                account,
+                from_day,
+                supplier,
+            },
+        )
+    }
+
+    /// Names another supplier for a served account.
+    pub fn switch(
+        &mut self,
+        book: &Book,
+        account: u32,
+        from_day: u32,
+        supplier: u32,
+    ) -> Result<(), Refusal>
+        ensures answer { λ r. ⌜ r ≡ switching (now (book .entry) .«last_opened») (rollOf (now (self .entry))) account «from_day» supplier ⌝ }
+        ensures after { λ r. ⌜ rollOf (now (self .exit)) ≡ ifOk r (added (rollOf (now (self .entry))) (entry account «from_day» supplier)) (rollOf (now (self .entry))) ⌝ }
+    {
+        if !is_account(account) || !is_day(from_day) || !is_supplier(supplier) {
+            return Err(refused(Cause::OutOfRange));
+        }
+        if !self.has_place() {
+            return Err(refused(Cause::RosterFull));
+        }
+        let last = self.last_entry(account, None);
+        let serving = supplier_in(last);
+        if serving == 0 {
+            return Err(refused(Cause::NotServed));
+        }
+        if serving as u32 == supplier {
+            return Err(refused(Cause::SameSupplier));
+        }
+        self.add_after(
+            book,
+            last,
+            Entry {
+                account,
+                from_day,
+                supplier,
+            },
+        )
+    }
+
+    /// Ends the service of a served account: adds an entry with supplier 0.
+    pub fn drop(&mut self, book: &Book, account: u32, from_day: u32) -> Result<(), Refusal>
+        ensures answer { λ r. ⌜ r ≡ dropping (now (book .entry) .«last_opened») (rollOf (now (self .entry))) account «from_day» ⌝ }
+        ensures after { λ r. ⌜ rollOf (now (self .exit)) ≡ ifOk r (added (rollOf (now (self .entry))) (entry account «from_day» 0)) (rollOf (now (self .entry))) ⌝ }
+    {
+        if !is_account(account) || !is_day(from_day) {
+            return Err(refused(Cause::OutOfRange));
+        }
+        if !self.has_place() {
+            return Err(refused(Cause::RosterFull));
+        }
+        let last = self.last_entry(account, None);
+        if supplier_in(last) == 0 {
+            return Err(refused(Cause::NotServed));
+        }
+        self.add_after(
+            book,
+            last,
+            Entry {
+                account,
+                from_day,
+                supplier: 0,
+            },
+        )
+    }
+
+    /// Puts an entry last if its from-day is after that of the account's last entry and after the last opened day.
+    fn add_after(&mut self, book: &Book, last: Option<Entry>, next: Entry) -> Result<(), Refusal>
+        requires { ⌜ hasPlace (rollOf (now self)) ≡ true ⌝ }
+        ensures answer { λ r. ⌜ r ≡ timing (now (book .entry) .«last_opened») last (next .«from_day») ⌝ }
+        ensures after { λ r. ⌜ rollOf (now (self .exit)) ≡ ifOk r (added (rollOf (now (self .entry))) next) (rollOf (now (self .entry))) ⌝ }
+    {
+        if let Some(before) = last
+            && next.from_day <= before.from_day
+        {
+            return Err(refused(Cause::NotAfterLastEntry));
+        }
+        if next.from_day <= book.last_opened() {
+            return Err(refused(Cause::NotAfterLastOpened));
+        }
+        self.add(next);
+        Ok(())
+    }
+}
