@@ -14,7 +14,7 @@ use Rattle.std.specs.declared.result.Result.the-variants.{Ok, Err}
 use Rattle.refusals.specs.declared.Refusal.{Refusal}
 use Rattle.book.specs.declared.roster.Entry.{Entry}
 use Rattle.book.specs.Entries.{Roll, added}
-use Rattle.book.specs.Calls.{Asked, hasPlace, ifOk, answerTo, entryAsked, afterCall, afterCalls, acceptedEntries, Entries-stay}
+use Rattle.book.specs.Calls.{Roster-call, hasPlace, ifOk, answerTo, entryAsked, afterCall, afterCalls, acceptedEntries, Entries-stay}
 
 abbrev pub cutAt : ℕ → List Entry → Roll
 cutAt n memory = record { entries = take n memory; beyond = drop n memory }
@@ -50,13 +50,13 @@ one-used (Ok done) roll e more =
     drop-drop (length more) 1 (roll .beyond) ∙ ap (λ n. drop n (roll .beyond)) more-is
 one-used (Err refusal) roll e more = refl
 
-only-added : (roll : Roll) (calls : List Asked) → afterCalls roll calls .entries ≡ roll .entries ++ acceptedEntries roll calls
+only-added : (roll : Roll) (calls : List Roster-call) → afterCalls roll calls .entries ≡ roll .entries ++ acceptedEntries roll calls
 only-added roll [] = sym (append-nil (roll .entries))
 only-added roll (call ∷ calls) =
     only-added (afterCall roll call) calls
     ∙ one-added (answerTo roll call) roll (entryAsked call) (acceptedEntries (afterCall roll call) calls)
 
-untouched : (roll : Roll) (calls : List Asked) → afterCalls roll calls .beyond ≡ drop (length (acceptedEntries roll calls)) (roll .beyond)
+untouched : (roll : Roll) (calls : List Roster-call) → afterCalls roll calls .beyond ≡ drop (length (acceptedEntries roll calls)) (roll .beyond)
 untouched roll [] = refl
 untouched roll (call ∷ calls) =
     untouched (afterCall roll call) calls

@@ -67,30 +67,30 @@ ifOk (Ok done) new old = new
 ifOk (Err refusal) new old = old
 
 -- A roster call with the day that was last opened when it was made.
-pub data Asked : Type 0 where
-  enrol : ℕ → ℕ → ℕ → ℕ → Asked
-  switch : ℕ → ℕ → ℕ → ℕ → Asked
-  leave : ℕ → ℕ → ℕ → Asked
+pub data Roster-call : Type 0 where
+  to-enrol : ℕ → ℕ → ℕ → ℕ → Roster-call
+  to-switch : ℕ → ℕ → ℕ → ℕ → Roster-call
+  to-drop : ℕ → ℕ → ℕ → Roster-call
 
-abbrev pub answerTo : Roll → Asked → Result (Unit {0}) Refusal
-answerTo roll (enrol opened account from supplier) = enrolling opened roll account from supplier
-answerTo roll (switch opened account from supplier) = switching opened roll account from supplier
-answerTo roll (leave opened account from) = dropping opened roll account from
+abbrev pub answerTo : Roll → Roster-call → Result (Unit {0}) Refusal
+answerTo roll (to-enrol opened account from supplier) = enrolling opened roll account from supplier
+answerTo roll (to-switch opened account from supplier) = switching opened roll account from supplier
+answerTo roll (to-drop opened account from) = dropping opened roll account from
 
-abbrev pub entryAsked : Asked → Entry
-entryAsked (enrol opened account from supplier) = entry account from supplier
-entryAsked (switch opened account from supplier) = entry account from supplier
-entryAsked (leave opened account from) = entry account from 0
+abbrev pub entryAsked : Roster-call → Entry
+entryAsked (to-enrol opened account from supplier) = entry account from supplier
+entryAsked (to-switch opened account from supplier) = entry account from supplier
+entryAsked (to-drop opened account from) = entry account from 0
 
-abbrev pub afterCall : Roll → Asked → Roll
+abbrev pub afterCall : Roll → Roster-call → Roll
 afterCall roll call = ifOk (answerTo roll call) (added roll (entryAsked call)) roll
 
-abbrev pub afterCalls : Roll → List Asked → Roll
+abbrev pub afterCalls : Roll → List Roster-call → Roll
 afterCalls roll [] = roll
 afterCalls roll (call ∷ calls) = afterCalls (afterCall roll call) calls
 
 -- the entries of the calls that were accepted, in their order
-abbrev pub acceptedEntries : Roll → List Asked → List Entry
+abbrev pub acceptedEntries : Roll → List Roster-call → List Entry
 acceptedEntries roll [] = []
 acceptedEntries roll (call ∷ calls) =
     ifOk (answerTo roll call) (entryAsked call ∷ []) [] ++ acceptedEntries (afterCall roll call) calls
@@ -98,5 +98,5 @@ acceptedEntries roll (call ∷ calls) =
 -- Whatever calls are made, the entries before them stay as they were; behind them stands one entry for each
 -- accepted call; and the memory behind these is as it was.
 pub record Entries-stay : Type 0 where
-  pub only-added : (roll : Roll) (calls : List Asked) → afterCalls roll calls .entries ≡ roll .entries ++ acceptedEntries roll calls
-  pub untouched : (roll : Roll) (calls : List Asked) → afterCalls roll calls .beyond ≡ drop (length (acceptedEntries roll calls)) (roll .beyond)
+  pub only-added : (roll : Roll) (calls : List Roster-call) → afterCalls roll calls .entries ≡ roll .entries ++ acceptedEntries roll calls
+  pub untouched : (roll : Roll) (calls : List Roster-call) → afterCalls roll calls .beyond ≡ drop (length (acceptedEntries roll calls)) (roll .beyond)

@@ -2,8 +2,8 @@
 ghost use mathlib.Core.Path.{_≡_};
 ghost use mathlib.Core.Bool.{true};
 ghost use Prim.Native.Nat.{ℕ, _+_, _<_, _≤_};
-ghost use Rattle.book.specs.Entries.{rollOf, entry, added};
-ghost use Rattle.book.specs.Calls.{hasPlace, timing, ifOk, enrolling, switching, dropping};
+ghost use Rattle.book.specs.Entries.{rollOf, added};
+ghost use Rattle.book.specs.Calls.{hasPlace, timing, ifOk, enrolling, switching, dropping, Roster-call, to-enrol, to-switch, to-drop, afterCall};
 use super::Entry;
 use super::Roster;
 use super::list::supplier_in;
@@ -25,7 +25,7 @@ impl<'a> Roster<'a> {
         supplier: u32,
     ) -> Result<(), Refusal>
         ensures answer { λ r. ⌜ r ≡ enrolling (now (book .entry) .«last_opened») (rollOf (now (self .entry))) account «from_day» supplier ⌝ }
-        ensures after { λ r. ⌜ rollOf (now (self .exit)) ≡ ifOk r (added (rollOf (now (self .entry))) (entry account «from_day» supplier)) (rollOf (now (self .entry))) ⌝ }
+        ensures after { λ _. ⌜ rollOf (now (self .exit)) ≡ afterCall (rollOf (now (self .entry))) (to-enrol (now (book .entry) .«last_opened») account «from_day» supplier) ⌝ }
     {
         if !is_account(account) || !is_day(from_day) || !is_supplier(supplier) {
             return Err(refused(Cause::OutOfRange));
@@ -57,7 +57,7 @@ impl<'a> Roster<'a> {
         supplier: u32,
     ) -> Result<(), Refusal>
         ensures answer { λ r. ⌜ r ≡ switching (now (book .entry) .«last_opened») (rollOf (now (self .entry))) account «from_day» supplier ⌝ }
-        ensures after { λ r. ⌜ rollOf (now (self .exit)) ≡ ifOk r (added (rollOf (now (self .entry))) (entry account «from_day» supplier)) (rollOf (now (self .entry))) ⌝ }
+        ensures after { λ _. ⌜ rollOf (now (self .exit)) ≡ afterCall (rollOf (now (self .entry))) (to-switch (now (book .entry) .«last_opened») account «from_day» supplier) ⌝ }
     {
         if !is_account(account) || !is_day(from_day) || !is_supplier(supplier) {
             return Err(refused(Cause::OutOfRange));
@@ -87,7 +87,7 @@ impl<'a> Roster<'a> {
     /// Ends the service of a served account: adds an entry with supplier 0.
     pub fn drop(&mut self, book: &Book, account: u32, from_day: u32) -> Result<(), Refusal>
         ensures answer { λ r. ⌜ r ≡ dropping (now (book .entry) .«last_opened») (rollOf (now (self .entry))) account «from_day» ⌝ }
-        ensures after { λ r. ⌜ rollOf (now (self .exit)) ≡ ifOk r (added (rollOf (now (self .entry))) (entry account «from_day» 0)) (rollOf (now (self .entry))) ⌝ }
+        ensures after { λ _. ⌜ rollOf (now (self .exit)) ≡ afterCall (rollOf (now (self .entry))) (to-drop (now (book .entry) .«last_opened») account «from_day») ⌝ }
     {
         if !is_account(account) || !is_day(from_day) {
             return Err(refused(Cause::OutOfRange));
