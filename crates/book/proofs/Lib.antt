@@ -2,3 +2,5 @@ pub mod Marks
 pub mod Rises
 pub mod Rolls
 pub mod Latest
+pub mod Fronts
+pub mod Tables

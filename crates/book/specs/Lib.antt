@@ -4,3 +4,4 @@ pub mod Slips
 pub mod Opening
 pub mod Entries
 pub mod Calls
+pub mod Sheets

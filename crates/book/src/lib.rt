@@ -2,9 +2,11 @@
 mod opening;
 mod ranges;
 mod roster;
+mod sheet;
 mod slip;
 
 pub use opening::Book;
 pub use roster::Entry;
 pub use roster::Roster;
+pub use sheet::Accounted;
 pub use slip::Slip;

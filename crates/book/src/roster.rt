@@ -22,3 +22,4 @@ pub struct Roster<'a> {
 
 mod calls;
 mod list;
+mod suppliers;
