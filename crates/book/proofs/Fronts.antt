@@ -15,10 +15,10 @@ use Rattle.book.specs.Rising.{Rising}
 use Rattle.book.specs.Sheets.{isAbove, risingAfter, risingFront}
 use Rattle.book.proofs.Rises.{rising-one, rising-cons}
 
--- one line more of the front
-pub front-more : (accounts : List ℕ) (before : Option ℕ) (i account : ℕ) → i < length accounts → account ≡ getD accounts i 0 → isAbove before account ≡ true
-    → i + risingAfter before (drop i accounts) ≡ i + 1 + risingAfter (Some account) (drop (i + 1) accounts)
-front-more accounts before i account lt is above =
+-- one line more of the front, of which `all` is the length
+pub front-more : (accounts : List ℕ) (before : Option ℕ) (i account all : ℕ) → i < length accounts → account ≡ getD accounts i 0 → isAbove before account ≡ true
+    → i + risingAfter before (drop i accounts) ≡ all → i + 1 + risingAfter (Some account) (drop (i + 1) accounts) ≡ all
+front-more accounts before i account all lt is above so-far =
     let P : ℕ → Type 0 = λ a. isAbove before a ≡ true in
     let step : risingAfter before (drop i accounts) ≡ suc (risingAfter (Some account) (drop (i + 1) accounts)) =
     at-drop-more (risingAfter before) accounts i 0 lt ∙ cond-true _ _ _ (subst P is above)
@@ -26,17 +26,17 @@ front-more accounts before i account lt is above =
     omega (arith, step)
 
 -- its end, at a line that is not above the one before
-pub front-ends : (accounts : List ℕ) (before : Option ℕ) (i account : ℕ) → i < length accounts → account ≡ getD accounts i 0 → isAbove before account ≡ false
-    → i + risingAfter before (drop i accounts) ≡ i
-front-ends accounts before i account lt is below =
+pub front-ends : (accounts : List ℕ) (before : Option ℕ) (i account all : ℕ) → i < length accounts → account ≡ getD accounts i 0 → isAbove before account ≡ false
+    → i + risingAfter before (drop i accounts) ≡ all → i ≡ all
+front-ends accounts before i account all lt is below so-far =
     let P : ℕ → Type 0 = λ a. isAbove before a ≡ false in
     let step : risingAfter before (drop i accounts) ≡ 0 =
     at-drop-more (risingAfter before) accounts i 0 lt ∙ cond-false _ _ _ (subst P is below) in
     omega (arith, step)
 
-pub front-whole : (accounts : List ℕ) (before : Option ℕ) (i : ℕ) → length accounts ≤ i → i + risingAfter before (drop i accounts) ≡ i
-front-whole accounts before i ends =
-    let step : risingAfter before (drop i accounts) ≡ 0 = at-drop-all (risingAfter before) accounts i ends in
+pub front-whole : (accounts : List ℕ) (before : Option ℕ) (i all : ℕ) → length accounts ≡ i → i + risingAfter before (drop i accounts) ≡ all → i ≡ all
+front-whole accounts before i all ends so-far =
+    let step : risingAfter before (drop i accounts) ≡ 0 = at-drop-all (risingAfter before) accounts i (omega arith) in
     omega (arith, step)
 
 pub front-le : (before : Option ℕ) (accounts : List ℕ) → risingAfter before accounts ≤ length accounts

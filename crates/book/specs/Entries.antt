@@ -1,11 +1,13 @@
 -- The roster's entries, and the supplier that they tell.
-use mathlib.Core.Bool.{Bool, cond, _&&_}
+use mathlib.Core.Path.{_≡_}
+use mathlib.Core.Bool.{Bool, true, false, cond, _&&_}
 use mathlib.Core.List.{List, [], _∷_, _++_}
 use Prim.Native.Nat.{ℕ, zero, suc}
 use denote.Ref.{now}
 use lib.Dec.{eqb, leb}
 use lib.ListN.{take, drop}
 use Rattle.std.specs.Iters.{folded}
+use Rattle.std.specs.shelf.Lists.{All}
 use Rattle.std.specs.declared.option.Option.{Option}
 use Rattle.std.specs.declared.option.Option.the-variants.{Some, None}
 use Rattle.book.specs.declared.roster.Entry.{Entry}
@@ -52,3 +54,13 @@ supplierOn account day entries = supplierIn (lastEntry account (Some day) entrie
 abbrev pub somebody : ℕ → Option ℕ
 somebody zero = None
 somebody (suc n) = Some (suc n)
+
+-- none of the entries is one of the account by that day
+abbrev pub NoneOf : ℕ → Option ℕ → List Entry → Type 0
+NoneOf account by entries = All (λ e. concerns account by e ≡ false) entries
+
+-- What the last entry is, whatever the entries: one that fits and has none behind it that fits; there is none where none fits.
+pub record Last-decides : Type 0 where
+  pub last : (account : ℕ) (by : Option ℕ) (before after : List Entry) (e : Entry) → concerns account by e ≡ true → NoneOf account by after
+      → lastEntry account by (before ++ e ∷ after) ≡ Some e
+  pub absent : (account : ℕ) (by : Option ℕ) (entries : List Entry) → NoneOf account by entries → lastEntry account by entries ≡ None

@@ -1,6 +1,7 @@
 -- Slips: the duty to close an opened day.
-use mathlib.Core.Bool.{Bool, cond}
-use Prim.Native.Nat.{ℕ, zero, suc, _+_, _-_, _/_, _%_, _^_}
+use mathlib.Core.Path.{_≡_}
+use mathlib.Core.Bool.{Bool, cond, _||_}
+use Prim.Native.Nat.{ℕ, zero, suc, _+_, _-_, _/_, _%_, _^_, _≤_}
 use lib.Bits.{bitOr}
 use lib.Dec.{eqb}
 use Rattle.book.specs.declared.slip.Slip.{Slip}
@@ -38,3 +39,8 @@ closing s = unsettled (s .settled) (s .hours)
 -- the slip once an hour is settled
 abbrev pub marked : ℕ → Day-slip → Day-slip
 marked hour s = record { stage = s .stage; day = s .day; hours = s .hours; settled = bitOr (s .settled) (markOf hour) }
+
+-- After an hour is marked it is settled, and of every other hour the same is so as before.
+abbrev pub Marks-one : Type 0
+Marks-one = (hour other : ℕ) (s : Day-slip) → 1 ≤ hour → 1 ≤ other
+    → isSettled (marked hour s .settled) other ≡ (eqb other hour || isSettled (s .settled) other)

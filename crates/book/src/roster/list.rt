@@ -3,7 +3,7 @@ ghost use mathlib.Core.Path.{_≡_};
 ghost use mathlib.Core.Bool.{true};
 ghost use Prim.Native.Nat.{ℕ, _+_, _<_, _≤_};
 ghost use lib.ListN.{length};
-ghost use Rattle.book.specs.Entries.{rollOf, added, emptyRoll, concerns, lastEntry, supplierIn, supplierOn, somebody};
+ghost use Rattle.book.specs.Entries.{rollOf, added, emptyRoll, concerns, lastEntry, supplierIn, supplierOn, somebody, Last-decides};
 ghost use Rattle.book.specs.Calls.{hasPlace, Entries-stay};
 use super::Entry;
 use super::Roster;
@@ -14,7 +14,7 @@ const MOST: usize = 65_536;
 
 impl Entry {
     /// Whether it is an entry of the account, by the day if one is given.
-    fn concerns(self, account: u32, by: Option<u32>) -> bool
+    fn is_of(self, account: u32, by: Option<u32>) -> bool
         ensures { λ r. ⌜ r ≡ concerns account by self ⌝ }
     {
         match by {
@@ -34,8 +34,15 @@ pub(crate) fn supplier_in(entry: Option<Entry>) -> u8
     }
 }
 
+/// The supplier, if it is not nobody.
+fn if_anybody(supplier: u8) -> Option<u8>
+    ensures { λ r. ⌜ r ≡ somebody supplier ⌝ }
+{
+    if supplier == 0 { None } else { Some(supplier) }
+}
+
 impl<'a> Roster<'a> {
-    /// A roster without entries.
+    /// A roster without entries. Whatever calls are made on a roster, its entries stay as they were added.
     pub fn new(memory: &'a mut [Entry]) -> Roster<'a>
         ensures empty { λ r. ⌜ rollOf r ≡ emptyRoll (now (memory .entry)) ⌝ }
         ensures stays { λ _. ⌜ Entries-stay ⌝ }
@@ -72,20 +79,18 @@ impl<'a> Roster<'a> {
     {
         for i in (0..self.count).rev() {
             let entry = self.memory[i];
-            if entry.concerns(account, by) {
+            if entry.is_of(account, by) {
                 return Some(entry);
             }
         }
         None
     }
 
-    /// The supplier of an account on a day, if somebody serves it.
+    /// The supplier of an account on a day, if somebody serves it. The last entry that fits decides.
     pub fn supplier_on(&self, account: u32, day: u32) -> Option<u8>
-        ensures { λ r. ⌜ r ≡ somebody (supplierOn account day (rollOf (now (self .entry)) .entries)) ⌝ }
+        ensures answer { λ r. ⌜ r ≡ somebody (supplierOn account day (rollOf (now (self .entry)) .entries)) ⌝ }
+        ensures last { λ _. ⌜ Last-decides ⌝ }
     {
-        match supplier_in(self.last_entry(account, Some(day))) {
-            0 => None,
-            supplier => Some(supplier),
-        }
+        if_anybody(supplier_in(self.last_entry(account, Some(day))))
     }
 }

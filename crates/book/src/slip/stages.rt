@@ -3,7 +3,7 @@ ghost use mathlib.Core.Path.{_≡_};
 ghost use mathlib.Core.Bool.{true};
 ghost use Prim.Native.Nat.{ℕ, _+_, _-_, _^_, _<_, _≤_};
 ghost use Rattle.book.specs.Ranges.{isDay, isHours};
-ghost use Rattle.book.specs.Slips.{slipOf, turned, closing, marked};
+ghost use Rattle.book.specs.Slips.{slipOf, turned, closing, marked, Marks-one};
 ghost use Rattle.book.specs.Opening.{newSlip};
 use super::Slip;
 
@@ -39,7 +39,8 @@ impl<const STAGE: u8> Slip<STAGE> {
     pub(crate) fn mark(&mut self, hour: u32)
         requires begun { ⌜ 1 ≤ hour ⌝ }
         requires within { ⌜ hour ≤ slipOf (now self) .hours ⌝ }
-        ensures { λ _. ⌜ slipOf (now (self .exit)) ≡ marked hour (slipOf (now (self .entry))) ⌝ }
+        ensures after { λ _. ⌜ slipOf (now (self .exit)) ≡ marked hour (slipOf (now (self .entry))) ⌝ }
+        ensures one { λ _. ⌜ Marks-one ⌝ }
     {
         self.settled |= 1 << (hour - 1);
     }

@@ -4,10 +4,10 @@ use Rattle.book.specs.Entries.{entry}
 use Rattle.book.proofs.Latest.{entry-found, entry-passed}
 use Rattle.book.proofs.roster.Roster.last_entry.Needs as need
 
-pub returns-then-concerns : need.returns-then-concerns
-returns-then-concerns c =
-    sym (c .loop-i .inv ∙ entry-found (c .args .account) (c .args .by) (c .args .self .now .memory .now) (c .loop-i .i) (entry 0 0 0) (omega arith) (omega arith) (sym (c .concerns .ensures) ∙ c .if-concerns .taken))
+pub returns-then-is-of : need.returns-then-is-of
+returns-then-is-of c =
+    sym (c .loop-i .inv ∙ entry-found (c .args .account) (c .args .by) (c .args .self .now .memory .now) (c .loop-i .i) (entry 0 0 0) (omega arith) (omega arith) (sym (c .is-of .ensures) ∙ c .if-is-of .taken))
 
 pub loop-i-again : need.loop-i-again
 loop-i-again c =
-    c .loop-i .inv ∙ entry-passed (c .args .account) (c .args .by) (c .args .self .now .memory .now) (c .loop-i .i) (entry 0 0 0) (omega arith) (omega arith) (sym (c .concerns .ensures) ∙ c .if-concerns .left)
+    c .loop-i .inv ∙ entry-passed (c .args .account) (c .args .by) (c .args .self .now .memory .now) (c .loop-i .i) (entry 0 0 0) (omega arith) (omega arith) (sym (c .is-of .ensures) ∙ c .if-is-of .left)
