@@ -4,3 +4,4 @@ pub mod Rolls
 pub mod Latest
 pub mod Fronts
 pub mod Tables
+pub mod Switches

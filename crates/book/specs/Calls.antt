@@ -12,12 +12,16 @@ use Rattle.std.specs.declared.result.Result.the-variants.{Ok, Err}
 use Rattle.refusals.specs.declared.Cause.the-variants.{OutOfRange, RosterFull, AlreadyServed, NotServed, SameSupplier, NotAfterLastEntry, NotAfterLastOpened}
 use Rattle.refusals.specs.declared.Refusal.{Refusal}
 use Rattle.book.specs.declared.roster.Entry.{Entry}
-use Rattle.book.specs.Ranges.{isAccount, isDay, isSupplier, unless}
+use Rattle.book.specs.Ranges.{isAccount, isDay, areTerms, unless}
 use Rattle.book.specs.Entries.{Roll, entry, added, lastEntry, supplierIn}
 
 -- a place is left: the memory goes on after the entries, and fewer than 65,536 are used
 abbrev pub hasPlace : Roll → Bool
 hasPlace roll = ltb (length (roll .entries)) 65536 && ltb 0 (length (roll .beyond))
+
+-- the checks that come first: the figures are within their ranges, and a place is left
+abbrev pub admitting : Roll → Bool → Result (Unit {0}) Refusal → Result (Unit {0}) Refusal
+admitting roll ranged next = unless ranged OutOfRange (unless (hasPlace roll) RosterFull next)
 
 -- the account's last entry
 abbrev pub lastOf : ℕ → Roll → Option Entry
@@ -41,25 +45,22 @@ timing opened last from =
 
 abbrev pub enrolling : ℕ → Roll → ℕ → ℕ → ℕ → Result (Unit {0}) Refusal
 enrolling opened roll account from supplier =
-    unless (isAccount account && (isDay from && isSupplier supplier)) OutOfRange
-    (unless (hasPlace roll) RosterFull
+    admitting roll (areTerms account from supplier)
     (unless (not (isServed account roll)) AlreadyServed
-    (timing opened (lastOf account roll) from)))
+    (timing opened (lastOf account roll) from))
 
 abbrev pub switching : ℕ → Roll → ℕ → ℕ → ℕ → Result (Unit {0}) Refusal
 switching opened roll account from supplier =
-    unless (isAccount account && (isDay from && isSupplier supplier)) OutOfRange
-    (unless (hasPlace roll) RosterFull
+    admitting roll (areTerms account from supplier)
     (unless (isServed account roll) NotServed
     (unless (not (eqb (supplierIn (lastOf account roll)) supplier)) SameSupplier
-    (timing opened (lastOf account roll) from))))
+    (timing opened (lastOf account roll) from)))
 
 abbrev pub dropping : ℕ → Roll → ℕ → ℕ → Result (Unit {0}) Refusal
 dropping opened roll account from =
-    unless (isAccount account && isDay from) OutOfRange
-    (unless (hasPlace roll) RosterFull
+    admitting roll (isAccount account && isDay from)
     (unless (isServed account roll) NotServed
-    (timing opened (lastOf account roll) from)))
+    (timing opened (lastOf account roll) from))
 
 -- what is so after a call: the new where it was accepted, the old where it was refused
 abbrev pub ifOk : {X : Type 0} → Result (Unit {0}) Refusal → X → X → X

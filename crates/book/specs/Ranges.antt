@@ -24,6 +24,10 @@ isHours hours = between 23 hours 25
 abbrev pub isSupplier : ℕ → Bool
 isSupplier supplier = between 1 supplier 32
 
+-- account, from-day and supplier
+abbrev pub areTerms : ℕ → ℕ → ℕ → Bool
+areTerms account from supplier = isAccount account && (isDay from && isSupplier supplier)
+
 -- a check of roster or book: where it fails, the call is refused with the cause, else the checks after it decide
 abbrev pub unless : {X : Type 0} → Bool → Cause → Result X Refusal → Result X Refusal
 unless passes cause next = cond passes next (Err (refusal cause Roster 0))

@@ -1,6 +1,6 @@
 //! The ranges of the figures that the calls take.
 ghost use mathlib.Core.Path.{_≡_};
-ghost use Rattle.book.specs.Ranges.{isAccount, isDay, isHours, isSupplier};
+ghost use Rattle.book.specs.Ranges.{isAccount, isDay, isHours, isSupplier, areTerms};
 ghost use Rattle.refusals.specs.Numbers.{refusal};
 ghost use Rattle.refusals.specs.declared.Layer.the-variants.{Roster};
 use refusals::Cause;
@@ -33,6 +33,13 @@ pub(crate) fn is_supplier(supplier: u32) -> bool
     ensures { λ r. ⌜ r ≡ isSupplier supplier ⌝ }
 {
     1 <= supplier && supplier <= 32
+}
+
+/// Whether account, from-day and supplier lie within their ranges.
+pub(crate) fn are_terms(account: u32, from_day: u32, supplier: u32) -> bool
+    ensures { λ r. ⌜ r ≡ areTerms account «from_day» supplier ⌝ }
+{
+    is_account(account) && is_day(from_day) && is_supplier(supplier)
 }
 
 /// A refusal by the roster or the book.

@@ -2,15 +2,19 @@
 ghost use mathlib.Core.Path.{_≡_};
 ghost use mathlib.Core.Bool.{true};
 ghost use Prim.Native.Nat.{ℕ, _+_, _<_, _≤_};
+ghost use Rattle.std.specs.Results.{Cases};
+ghost use Rattle.std.specs.declared.result.Result.{Result};
+ghost use Rattle.std.specs.declared.result.Result.the-variants.{Ok, Err};
+ghost use Rattle.refusals.specs.declared.Refusal.{Refusal as RefusalT};
 ghost use Rattle.book.specs.Entries.{rollOf, added};
-ghost use Rattle.book.specs.Calls.{hasPlace, timing, ifOk, enrolling, switching, dropping, Roster-call, to-enrol, to-switch, to-drop, afterCall};
+ghost use Rattle.book.specs.Calls.{hasPlace, admitting, timing, ifOk, enrolling, switching, dropping, Roster-call, to-enrol, to-switch, to-drop, afterCall};
 use super::Entry;
 use super::Roster;
 use super::list::supplier_in;
 use crate::opening::Book;
+use crate::ranges::are_terms;
 use crate::ranges::is_account;
 use crate::ranges::is_day;
-use crate::ranges::is_supplier;
 use crate::ranges::refused;
 use refusals::Cause;
 use refusals::Refusal;
@@ -27,12 +31,7 @@ impl<'a> Roster<'a> {
         ensures answer { λ r. ⌜ r ≡ enrolling (now (book .entry) .«last_opened») (rollOf (now (self .entry))) account «from_day» supplier ⌝ }
         ensures after { λ _. ⌜ rollOf (now (self .exit)) ≡ afterCall (rollOf (now (self .entry))) (to-enrol (now (book .entry) .«last_opened») account «from_day» supplier) ⌝ }
     {
-        if !is_account(account) || !is_day(from_day) || !is_supplier(supplier) {
-            return Err(refused(Cause::OutOfRange));
-        }
-        if !self.has_place() {
-            return Err(refused(Cause::RosterFull));
-        }
+        self.admit(are_terms(account, from_day, supplier))?;
         let last = self.last_entry(account, None);
         if supplier_in(last) != 0 {
             return Err(refused(Cause::AlreadyServed));
@@ -59,12 +58,7 @@ impl<'a> Roster<'a> {
         ensures answer { λ r. ⌜ r ≡ switching (now (book .entry) .«last_opened») (rollOf (now (self .entry))) account «from_day» supplier ⌝ }
         ensures after { λ _. ⌜ rollOf (now (self .exit)) ≡ afterCall (rollOf (now (self .entry))) (to-switch (now (book .entry) .«last_opened») account «from_day» supplier) ⌝ }
     {
-        if !is_account(account) || !is_day(from_day) || !is_supplier(supplier) {
-            return Err(refused(Cause::OutOfRange));
-        }
-        if !self.has_place() {
-            return Err(refused(Cause::RosterFull));
-        }
+        self.admit(are_terms(account, from_day, supplier))?;
         let last = self.last_entry(account, None);
         let serving = supplier_in(last);
         if serving == 0 {
@@ -89,12 +83,7 @@ impl<'a> Roster<'a> {
         ensures answer { λ r. ⌜ r ≡ dropping (now (book .entry) .«last_opened») (rollOf (now (self .entry))) account «from_day» ⌝ }
         ensures after { λ _. ⌜ rollOf (now (self .exit)) ≡ afterCall (rollOf (now (self .entry))) (to-drop (now (book .entry) .«last_opened») account «from_day») ⌝ }
     {
-        if !is_account(account) || !is_day(from_day) {
-            return Err(refused(Cause::OutOfRange));
-        }
-        if !self.has_place() {
-            return Err(refused(Cause::RosterFull));
-        }
+        self.admit(is_account(account) && is_day(from_day))?;
         let last = self.last_entry(account, None);
         if supplier_in(last) == 0 {
             return Err(refused(Cause::NotServed));
@@ -108,6 +97,19 @@ impl<'a> Roster<'a> {
                 supplier: 0,
             },
         )
+    }
+
+    /// The checks that come first: the figures are within their ranges, and a place is left.
+    fn admit(&self, ranged: bool) -> Result<(), Refusal>
+        ensures { λ r. ⌜ Cases r (λ _. (ranged ≡ true) × (hasPlace (rollOf (now (self .entry))) ≡ true)) (λ e. (next : Result (Unit {0}) RefusalT) → Err e ≡ admitting (rollOf (now (self .entry))) ranged next) ⌝ }
+    {
+        if !ranged {
+            return Err(refused(Cause::OutOfRange));
+        }
+        if !self.has_place() {
+            return Err(refused(Cause::RosterFull));
+        }
+        Ok(())
     }
 
     /// Puts an entry last if its from-day is after that of the account's last entry and after the last opened day.
