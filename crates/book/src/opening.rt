@@ -5,7 +5,7 @@ use crate::ranges::is_day;
 use crate::ranges::is_hours;
 use crate::ranges::refused;
 use crate::slip::Slip;
-use crate::slip::stages::new_slip;
+use crate::slip::opened::new_slip;
 use refusals::Cause;
 use refusals::Refusal;
 
@@ -36,13 +36,14 @@ impl Book {
         ensures answer { λ r. ⌜ told r ≡ opening (now (self .entry) .«last_opened») day hours ⌝ }
         ensures after { λ r. ⌜ now (self .exit) .«last_opened» ≡ lastAfter (now (self .entry) .«last_opened») (opening (now (self .entry) .«last_opened») day hours) ⌝ }
     {
+        let Book { last_opened } = self;
         if !is_day(day) || !is_hours(hours) {
             return Err(refused(Cause::OutOfRange));
         }
-        if day <= self.last_opened {
+        if day <= *last_opened {
             return Err(refused(Cause::DayNotAfter));
         }
-        self.last_opened = day;
+        *last_opened = day;
         Ok(new_slip(day, hours))
     }
 }

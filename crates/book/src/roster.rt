@@ -22,4 +22,5 @@ pub struct Roster<'a> {
 
 mod calls;
 mod list;
+mod places;
 mod suppliers;

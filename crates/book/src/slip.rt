@@ -14,4 +14,5 @@ pub struct Slip<const STAGE: u8> {
     ghost within: { settled < 2 ^ hours },
 }
 
-pub(crate) mod stages;
+pub(crate) mod opened;
+mod stages;

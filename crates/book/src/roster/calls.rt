@@ -10,7 +10,7 @@ ghost use Rattle.book.specs.Entries.{rollOf, added};
 ghost use Rattle.book.specs.Calls.{hasPlace, admitting, timing, ifOk, enrolling, switching, dropping, Roster-call, to-enrol, to-switch, to-drop, afterCall};
 use super::Entry;
 use super::Roster;
-use super::list::supplier_in;
+use super::places::supplier_in;
 use crate::opening::Book;
 use crate::ranges::are_terms;
 use crate::ranges::is_account;

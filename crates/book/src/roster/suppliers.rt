@@ -7,7 +7,7 @@ ghost use Rattle.book.specs.Entries.{rollOf};
 ghost use Rattle.book.specs.Rising.{Rising};
 ghost use Rattle.book.specs.Sheets.{suppliersOn, linesTold, tableOn};
 use super::Roster;
-use super::list::supplier_in;
+use super::places::supplier_in;
 use crate::sheet::Accounted;
 use crate::sheet::place_of;
 use crate::sheet::rising_front;

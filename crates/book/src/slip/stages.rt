@@ -1,24 +1,8 @@
 //! What a slip says, and how it goes from stage to stage.
 ghost use mathlib.Core.Path.{_≡_};
-ghost use mathlib.Core.Bool.{true};
 ghost use Prim.Native.Nat.{ℕ, _+_, _-_, _^_, _<_, _≤_};
-ghost use Rattle.book.specs.Ranges.{isDay, isHours};
 ghost use Rattle.book.specs.Slips.{slipOf, turned, closing, marked, Marks-one};
-ghost use Rattle.book.specs.Opening.{newSlip};
 use super::Slip;
-
-/// The slip of a day that is opened.
-pub(crate) fn new_slip(day: u32, hours: u32) -> Slip<1>
-    requires dated { ⌜ isDay day ≡ true ⌝ }
-    requires timed { ⌜ isHours hours ≡ true ⌝ }
-    ensures { λ r. ⌜ slipOf r ≡ newSlip day hours ⌝ }
-{
-    Slip {
-        day,
-        hours,
-        settled: 0,
-    }
-}
 
 impl<const STAGE: u8> Slip<STAGE> {
     /// The day.
@@ -54,7 +38,7 @@ impl Slip<1> {
         let Slip {
             day,
             hours,
-            settled: _,
+            settled: _estimated,
         } = self;
         Slip {
             day,
@@ -80,7 +64,7 @@ impl Slip<2> {
 
 #[cfg(test)]
 mod tests {
-    use super::new_slip;
+    use crate::slip::opened::new_slip;
     use std::test::*;
 
     #[test]

@@ -13,7 +13,7 @@ returns c =
     let answer : c .add-after .result ≡ switching opened roll (c .args .account) (c .args .from-day) (c .args .supplier) =
     switch-passes opened roll (c .args .account) (c .args .from-day) (c .args .supplier) (c .last-entry-last .result) (c .add-after .result)
     (sym (c .are-terms .ensures) ∙ ok .0) (ok .1) (c .last-entry-last .ensures)
-    (λ e. omega (arith, c .supplier-in-serving .ensures, c .if-serving-eq0 .left)) (λ e. omega (arith, c .supplier-in-serving .ensures, c .if-serving-supplier .left)) (c .add-after .ensures .answer) in
+    (λ e. omega (arith, c .supplier-in-serving .ensures)) (λ e. omega (arith, c .supplier-in-serving .ensures)) (c .add-after .ensures .answer) in
     record {
       answer = answer;
       after = c .add-after .ensures .after ∙ ap (λ r. ifOk r (added roll (entry (c .args .account) (c .args .from-day) (c .args .supplier))) roll) answer;
