@@ -15,28 +15,42 @@ use Rattle.book.specs.Rising.{Rising}
 use Rattle.book.specs.Sheets.{isAbove, risingAfter, risingFront}
 use Rattle.book.proofs.Rises.{rising-one, rising-cons}
 
+-- the account that was read off a line
+account-at : {X : Type 0} (f : X → ℕ) (lines : List X) (i account : ℕ) (line : X) → i < length lines → line ≡ getD lines i line → account ≡ f line
+    → account ≡ getD (map f lines) i 0
+account-at f lines i account line lt is told = told ∙ ap f is ∙ sym (getD-map f lines i line 0 lt)
+
+-- what the front goes on with at a line that was read
+front-at : {X : Type 0} (f : X → ℕ) (lines : List X) (before : Option ℕ) (i account : ℕ) (line : X) → i < length lines → line ≡ getD lines i line
+    → account ≡ f line
+    → risingAfter before (drop i (map f lines)) ≡ cond (isAbove before account) (suc (risingAfter (Some account) (drop (i + 1) (map f lines)))) 0
+front-at f lines before i account line lt is told =
+    let accounts = map f lines in
+    at-drop-more (risingAfter before) accounts i 0 (omega (arith, length-map lines f))
+    ∙ ap (λ a. cond (isAbove before a) (suc (risingAfter (Some a) (drop (i + 1) accounts))) 0) (sym (account-at f lines i account line lt is told))
+
 -- one line more of the front, of which `all` is the length
-pub front-more : (accounts : List ℕ) (before : Option ℕ) (i account all : ℕ) → i < length accounts → account ≡ getD accounts i 0 → isAbove before account ≡ true
-    → i + risingAfter before (drop i accounts) ≡ all → i + 1 + risingAfter (Some account) (drop (i + 1) accounts) ≡ all
-front-more accounts before i account all lt is above so-far =
-    let P : ℕ → Type 0 = λ a. isAbove before a ≡ true in
-    let step : risingAfter before (drop i accounts) ≡ suc (risingAfter (Some account) (drop (i + 1) accounts)) =
-    at-drop-more (risingAfter before) accounts i 0 lt ∙ cond-true _ _ _ (subst P is above)
-    ∙ ap (λ a. suc (risingAfter (Some a) (drop (i + 1) accounts))) (sym is) in
+pub front-more : {X : Type 0} (f : X → ℕ) (lines : List X) (before : Option ℕ) (i account all : ℕ) (line : X) → i < length lines → line ≡ getD lines i line
+    → account ≡ f line → true ≡ isAbove before account
+    → i + risingAfter before (drop i (map f lines)) ≡ all → i + 1 + risingAfter (Some account) (drop (i + 1) (map f lines)) ≡ all
+front-more f lines before i account all line lt is told above so-far =
+    let step : risingAfter before (drop i (map f lines)) ≡ suc (risingAfter (Some account) (drop (i + 1) (map f lines))) =
+    front-at f lines before i account line lt is told ∙ cond-true _ _ _ (sym above) in
     omega (arith, step)
 
 -- its end, at a line that is not above the one before
-pub front-ends : (accounts : List ℕ) (before : Option ℕ) (i account all : ℕ) → i < length accounts → account ≡ getD accounts i 0 → isAbove before account ≡ false
-    → i + risingAfter before (drop i accounts) ≡ all → i ≡ all
-front-ends accounts before i account all lt is below so-far =
-    let P : ℕ → Type 0 = λ a. isAbove before a ≡ false in
-    let step : risingAfter before (drop i accounts) ≡ 0 =
-    at-drop-more (risingAfter before) accounts i 0 lt ∙ cond-false _ _ _ (subst P is below) in
+pub front-ends : {X : Type 0} (f : X → ℕ) (lines : List X) (before : Option ℕ) (i account all : ℕ) (line : X) → i < length lines → line ≡ getD lines i line
+    → account ≡ f line → false ≡ isAbove before account
+    → i + risingAfter before (drop i (map f lines)) ≡ all → i ≡ all
+front-ends f lines before i account all line lt is told below so-far =
+    let step : risingAfter before (drop i (map f lines)) ≡ 0 = front-at f lines before i account line lt is told ∙ cond-false _ _ _ (sym below) in
     omega (arith, step)
 
-pub front-whole : (accounts : List ℕ) (before : Option ℕ) (i all : ℕ) → length accounts ≡ i → i + risingAfter before (drop i accounts) ≡ all → i ≡ all
-front-whole accounts before i all ends so-far =
-    let step : risingAfter before (drop i accounts) ≡ 0 = at-drop-all (risingAfter before) accounts i (omega arith) in
+-- or where the lines end
+pub front-whole : {X : Type 0} (f : X → ℕ) (lines : List X) (before : Option ℕ) (i all : ℕ) → length lines ≡ i
+    → i + risingAfter before (drop i (map f lines)) ≡ all → length lines ≡ all
+front-whole f lines before i all ends so-far =
+    let step : risingAfter before (drop i (map f lines)) ≡ 0 = at-drop-all (risingAfter before) (map f lines) i (omega (arith, length-map lines f)) in
     omega (arith, step)
 
 pub front-le : (before : Option ℕ) (accounts : List ℕ) → risingAfter before accounts ≤ length accounts
@@ -57,7 +71,7 @@ front-rises [] = λ i j h k. absurd (omega arith)
 front-rises (x ∷ xs) = rises-after x xs
 
 -- in a list whose first n numbers rise
-pub rises-at : (n : ℕ) (xs : List ℕ) → n ≤ length xs → Rising (take n xs) → (i j : ℕ) → i < j → j < n → getD xs i 0 < getD xs j 0
+rises-at : (n : ℕ) (xs : List ℕ) → n ≤ length xs → Rising (take n xs) → (i j : ℕ) → i < j → j < n → getD xs i 0 < getD xs j 0
 rises-at n xs within rises i j less short =
     let low : i < n = omega arith in
     let step = rises i j less (omega (arith, length-take-le n xs within)) in
@@ -83,7 +97,7 @@ pub halved-start : (xs : List ℕ) (n account : ℕ) → Halved xs n account 0 n
 halved-start xs n account =
     record { ordered = omega arith; within = omega arith; below = λ k h. absurd (omega arith); above = λ k h s. absurd (omega arith) }
 
-pub halved-up : (xs : List ℕ) (n account low high middle : ℕ) → ((i j : ℕ) → i < j → j < n → getD xs i 0 < getD xs j 0)
+halved-up : (xs : List ℕ) (n account low high middle : ℕ) → ((i j : ℕ) → i < j → j < n → getD xs i 0 < getD xs j 0)
     → Halved xs n account low high → low ≤ middle → middle < high → getD xs middle 0 < account → Halved xs n account (middle + 1) high
 halved-up xs n account low high middle rises h from to less =
     let short : middle < n = omega (arith, h .within) in
@@ -95,7 +109,7 @@ halved-up xs n account low high middle rises h from to less =
       above = h .above;
     }
 
-pub halved-down : (xs : List ℕ) (n account low high middle : ℕ) → ((i j : ℕ) → i < j → j < n → getD xs i 0 < getD xs j 0)
+halved-down : (xs : List ℕ) (n account low high middle : ℕ) → ((i j : ℕ) → i < j → j < n → getD xs i 0 < getD xs j 0)
     → Halved xs n account low high → low ≤ middle → middle < high → account < getD xs middle 0 → Halved xs n account low middle
 halved-down xs n account low high middle rises h from to more =
     record {
@@ -112,12 +126,32 @@ halved-none xs n account low high h ends k short same =
     ⊎-elim (λ e. omega (arith, h .above k (omega arith) short))
     (⊎-elim (λ l. omega (arith, h .below k l)) (λ l. omega (arith, h .above k (omega arith) short))) (cases-order k low)
 
--- the account that was read off a line
-pub account-at : {X : Type 0} (f : X → ℕ) (lines : List X) (i account : ℕ) (line : X) → i < length lines → line ≡ getD lines i line → account ≡ f line
-    → account ≡ getD (map f lines) i 0
-account-at f lines i account line lt is told = told ∙ ap f is ∙ sym (getD-map f lines i line 0 lt)
+-- One step of the search: the account there was read off the line in the middle.
+there-at : {X : Type 0} (f : X → ℕ) (lines : List X) (n account low high middle there : ℕ) (line : X) → n ≤ length lines
+    → Halved (map f lines) n account low high → middle < high → line ≡ getD lines middle line → there ≡ f line → there ≡ getD (map f lines) middle 0
+there-at f lines n account low high middle there line within h to is told =
+    account-at f lines middle there line (omega (arith, h .within)) is told
 
-pub place-found : {X : Type 0} (f : X → ℕ) (lines : List X) (n i account there : ℕ) (line : X) → n ≤ length lines → i < n → line ≡ getD lines i line
-    → there ≡ f line → there ≡ account → (i < n) × (getD (map f lines) i 0 ≡ account)
-place-found f lines n i account there line within lt is told same =
-    (lt, sym (account-at f lines i there line (omega arith) is told) ∙ same)
+lines-rise : {X : Type 0} (f : X → ℕ) (lines : List X) (n : ℕ) → n ≤ length lines → Rising (take n (map f lines))
+    → (i j : ℕ) → i < j → j < n → getD (map f lines) i 0 < getD (map f lines) j 0
+lines-rise f lines n within rises = rises-at n (map f lines) (omega (arith, length-map lines f)) rises
+
+pub searched-found : {X : Type 0} (f : X → ℕ) (lines : List X) (n account low high middle there : ℕ) (line : X) → n ≤ length lines
+    → Halved (map f lines) n account low high → middle < high → line ≡ getD lines middle line → there ≡ f line → there ≡ account
+    → (middle < n) × (getD (map f lines) middle 0 ≡ account)
+searched-found f lines n account low high middle there line within h to is told same =
+    (omega (arith, h .within), sym (there-at f lines n account low high middle there line within h to is told) ∙ same)
+
+pub searched-up : {X : Type 0} (f : X → ℕ) (lines : List X) (n account low high middle there : ℕ) (line : X) → n ≤ length lines → Rising (take n (map f lines))
+    → Halved (map f lines) n account low high → low ≤ middle → middle < high → line ≡ getD lines middle line → there ≡ f line → there < account
+    → Halved (map f lines) n account (middle + 1) high
+searched-up f lines n account low high middle there line within rises h from to is told less =
+    let read = there-at f lines n account low high middle there line within h to is told in
+    halved-up (map f lines) n account low high middle (lines-rise f lines n within rises) h from to (omega arith)
+
+pub searched-down : {X : Type 0} (f : X → ℕ) (lines : List X) (n account low high middle there : ℕ) (line : X) → n ≤ length lines → Rising (take n (map f lines))
+    → Halved (map f lines) n account low high → low ≤ middle → middle < high → line ≡ getD lines middle line → there ≡ f line → account < there
+    → Halved (map f lines) n account low middle
+searched-down f lines n account low high middle there line within rises h from to is told more =
+    let read = there-at f lines n account low high middle there line within h to is told in
+    halved-down (map f lines) n account low high middle (lines-rise f lines n within rises) h from to (omega arith)

@@ -11,8 +11,8 @@ use Rattle.refusals.specs.declared.Refusal.{Refusal}
 use Rattle.book.specs.declared.roster.Entry.{Entry}
 use Rattle.std.specs.declared.option.Option.{Option}
 use Rattle.book.specs.Ranges.{areTerms, unless}
-use Rattle.book.specs.Entries.{Roll, supplierIn}
-use Rattle.book.specs.Calls.{hasPlace, lastOf, isServed, timing, switching}
+use Rattle.book.specs.Entries.{Roll, added, supplierIn}
+use Rattle.book.specs.Calls.{hasPlace, lastOf, isServed, timing, switching, ifOk}
 
 passes : (test : Bool) (cause : Cause) (next : Result (Unit {0}) Refusal) → test ≡ true → unless test cause next ≡ next
 passes test cause next it = cond-true _ _ _ it
@@ -33,3 +33,7 @@ switch-passes opened roll account from supplier last r ranged place is served ot
     ∙ passes (hasPlace roll) RosterFull checks place
     ∙ passes (isServed account roll) NotServed (unless (not (eqb s supplier)) SameSupplier end) serves
     ∙ passes (not (eqb s supplier)) SameSupplier end differs)
+
+-- what a call leaves, by its answer or by the rule that the answer equals
+pub left-by : (r rule : Result (Unit {0}) Refusal) (roll left : Roll) (e : Entry) → r ≡ rule → left ≡ ifOk r (added roll e) roll → left ≡ ifOk rule (added roll e) roll
+left-by r rule roll left e same is = is ∙ ap (λ answer. ifOk answer (added roll e) roll) same

@@ -1,13 +1,12 @@
 //! Enrol, switch and drop.
 ghost use mathlib.Core.Path.{_≡_};
 ghost use mathlib.Core.Bool.{true};
-ghost use Prim.Native.Nat.{ℕ, _+_, _<_, _≤_};
 ghost use Rattle.std.specs.Results.{Cases};
 ghost use Rattle.std.specs.declared.result.Result.{Result};
-ghost use Rattle.std.specs.declared.result.Result.the-variants.{Ok, Err};
+ghost use Rattle.std.specs.declared.result.Result.the-variants.{Err};
 ghost use Rattle.refusals.specs.declared.Refusal.{Refusal as RefusalT};
-ghost use Rattle.book.specs.Entries.{rollOf, added};
-ghost use Rattle.book.specs.Calls.{hasPlace, admitting, timing, ifOk, enrolling, switching, dropping, Roster-call, to-enrol, to-switch, to-drop, afterCall};
+ghost use Rattle.book.specs.Entries.{rollOf, entry, added};
+ghost use Rattle.book.specs.Calls.{hasPlace, admitting, timing, ifOk, enrolling, switching, dropping, to-enrol, to-switch, to-drop, afterCall};
 use super::Entry;
 use super::Roster;
 use super::places::supplier_in;
@@ -36,15 +35,7 @@ impl<'a> Roster<'a> {
         if supplier_in(last) != 0 {
             return Err(refused(Cause::AlreadyServed));
         }
-        self.add_after(
-            book,
-            last,
-            Entry {
-                account,
-                from_day,
-                supplier,
-            },
-        )
+        self.add_after(book, last, account, from_day, supplier)
     }
 
     /// Names another supplier for a served account.
@@ -67,15 +58,7 @@ impl<'a> Roster<'a> {
         if serving as u32 == supplier {
             return Err(refused(Cause::SameSupplier));
         }
-        self.add_after(
-            book,
-            last,
-            Entry {
-                account,
-                from_day,
-                supplier,
-            },
-        )
+        self.add_after(book, last, account, from_day, supplier)
     }
 
     /// Ends the service of a served account: adds an entry with supplier 0.
@@ -88,15 +71,7 @@ impl<'a> Roster<'a> {
         if supplier_in(last) == 0 {
             return Err(refused(Cause::NotServed));
         }
-        self.add_after(
-            book,
-            last,
-            Entry {
-                account,
-                from_day,
-                supplier: 0,
-            },
-        )
+        self.add_after(book, last, account, from_day, 0)
     }
 
     /// The checks that come first: the figures are within their ranges, and a place is left.
@@ -113,20 +88,31 @@ impl<'a> Roster<'a> {
     }
 
     /// Puts an entry last if its from-day is after that of the account's last entry and after the last opened day.
-    fn add_after(&mut self, book: &Book, last: Option<Entry>, next: Entry) -> Result<(), Refusal>
+    fn add_after(
+        &mut self,
+        book: &Book,
+        last: Option<Entry>,
+        account: u32,
+        from_day: u32,
+        supplier: u32,
+    ) -> Result<(), Refusal>
         requires { ⌜ hasPlace (rollOf (now self)) ≡ true ⌝ }
-        ensures answer { λ r. ⌜ r ≡ timing (now (book .entry) .«last_opened») last (next .«from_day») ⌝ }
-        ensures after { λ r. ⌜ rollOf (now (self .exit)) ≡ ifOk r (added (rollOf (now (self .entry))) next) (rollOf (now (self .entry))) ⌝ }
+        ensures answer { λ r. ⌜ r ≡ timing (now (book .entry) .«last_opened») last «from_day» ⌝ }
+        ensures after { λ r. ⌜ rollOf (now (self .exit)) ≡ ifOk r (added (rollOf (now (self .entry))) (entry account «from_day» supplier)) (rollOf (now (self .entry))) ⌝ }
     {
         if let Some(before) = last
-            && next.from_day <= before.from_day
+            && from_day <= before.from_day
         {
             return Err(refused(Cause::NotAfterLastEntry));
         }
-        if next.from_day <= book.last_opened() {
+        if from_day <= book.last_opened() {
             return Err(refused(Cause::NotAfterLastOpened));
         }
-        self.add(next);
+        self.add(Entry {
+            account,
+            from_day,
+            supplier,
+        });
         Ok(())
     }
 }

@@ -1,8 +1,8 @@
 use native.Mathlib.Omega.{arith}
-use mathlib.Core.Path.{_≡_, sym, ap, _∙_}
-use Rattle.book.specs.Entries.{rollOf, entry, added}
-use Rattle.book.specs.Calls.{ifOk, switching}
-use Rattle.book.proofs.Switches.{switch-passes}
+use mathlib.Core.Path.{_≡_, sym, _∙_}
+use Rattle.book.specs.Entries.{rollOf, entry}
+use Rattle.book.specs.Calls.{switching}
+use Rattle.book.proofs.Switches.{switch-passes, left-by}
 use Rattle.book.proofs.roster.Roster.switch.Needs as need
 
 pub returns : need.returns
@@ -16,5 +16,5 @@ returns c =
     (λ e. omega (arith, c .supplier-in-serving .ensures)) (λ e. omega (arith, c .supplier-in-serving .ensures)) (c .add-after .ensures .answer) in
     record {
       answer = answer;
-      after = c .add-after .ensures .after ∙ ap (λ r. ifOk r (added roll (entry (c .args .account) (c .args .from-day) (c .args .supplier))) roll) answer;
+      after = left-by (c .add-after .result) _ roll _ (entry (c .args .account) (c .args .from-day) (c .args .supplier)) answer (c .add-after .ensures .after);
     }
