@@ -5,3 +5,4 @@ pub mod Latest
 pub mod Fronts
 pub mod Tables
 pub mod Switches
+pub mod Checking

@@ -5,3 +5,4 @@ pub mod Opening
 pub mod Entries
 pub mod Calls
 pub mod Sheets
+pub mod Checks
