@@ -5,3 +5,6 @@ pub mod Serving
 pub mod Weighing
 pub mod Portions
 pub mod Parting
+pub mod Suppliers
+pub mod Summing
+pub mod Settled

@@ -6,13 +6,15 @@ use native.Mathlib.Nat.{zero-add}
 use native.Mathlib.Omega.{arith}
 use lib.ListN.{length, getD, take, drop, set}
 use Rattle.std.specs.shelf.Lists.{sum, sumBy}
+use Rattle.std.specs.declared.result.Result.the-variants.{Ok}
 use Rattle.std.proofs.shelf.Sums.{sumBy-more, sumBy-take-le, sum-map}
 use Rattle.std.proofs.shelf.Lists.{append-assoc, length-map, length-take-le, map-more, map-push, drop-more, set-at, take-all}
 use Rattle.rules.specs.Ranges.{most}
 use Rattle.rules.specs.declared.sharing.Pot.{Pot}
-use Rattle.rules.specs.Pots.{potAt}
-use Rattle.rules.specs.Shares.{upTo, sharesAfter, shares, plus}
-use Rattle.rules.proofs.Shares.{length-shares, length-plus, plus-push, shares-push}
+use Rattle.rules.specs.Pots.{potAt, potsOf}
+use Rattle.rules.specs.Shares.{upTo, sharesAfter, shares, plus, sharing, unlessRefused}
+use Rattle.rules.proofs.Shares.{upTo-le, sum-after, length-shares, length-plus, plus-push, shares-push}
+use Rattle.rules.proofs.Weighing.{sharing-told, not-refused}
 
 -- the shares of the lines up to i, in one group
 abbrev pub front : {L : Type 0} → (L → ℕ) → List L → ℕ → ℕ → List ℕ
@@ -21,6 +23,13 @@ front f ls g i = sharesAfter g (sumBy f ls) 0 (map f (take i ls))
 module _ {L : Type 0} (f : L → ℕ) (ls : List L) (i : ℕ) where
   pub length-front : (g : ℕ) → i ≤ length ls → length (front f ls g i) ≡ i
   length-front g h = length-shares g (sumBy f ls) 0 (map f (take i ls)) ∙ length-map (take i ls) f ∙ length-take-le i ls h
+
+  -- no more than the total
+  pub sum-front-le : (g : ℕ) → sum (front f ls g i) ≤ g
+  sum-front-le g =
+      let c = sum (map f (take i ls)) in
+      let seen : 0 + c ≤ sumBy f ls = omega (arith, sum-map f (take i ls), sumBy-take-le f ls i) in
+      omega (arith, sum-after g (sumBy f ls) 0 (map f (take i ls)), upTo-le g (sumBy f ls) (0 + c) seen)
 
   -- the next line l, of weight x
   module _ (x : ℕ) (l : L) (lt : i < length ls) (at : l ≡ getD ls i l) (weight : x ≡ f l) where
@@ -74,3 +83,36 @@ module _ (p : Pot) (g w c x : ℕ) (e : p ≡ potAt g w c) where
 
   pub pot-share : (n : ℕ) → n ≡ upTo (p .total) (p .whole) (p .served + x) - upTo (p .total) (p .whole) (p .served) → n ≡ upTo g w (c + x) - upTo g w c
   pot-share n is = is ∙ ap (λ q. upTo (q .total) (q .whole) (q .served + x) - upTo (q .total) (q .whole) (q .served)) e
+
+-- the pots p and q that sharing the totals g and h over lines starts from
+module _ {L : Type 0} (f s : L → ℕ) (ls : List L) (g h room : ℕ) (p q : Pot) (e : Ok (p, q) ≡ unlessRefused (sharing g h (map f ls) (map s ls) room) (potsOf g h (map f ls) (map s ls))) where
+  started : (sharing g h (map f ls) (map s ls) room ≡ Ok tt) × ((p, q) ≡ potsOf g h (map f ls) (map s ls))
+  started = not-refused (potsOf g h (map f ls) (map s ls)) (sharing g h (map f ls) (map s ls) room) (p, q) e
+
+  pub start-shares : sharing g h (map f ls) (map s ls) room ≡ Ok tt
+  start-shares = started .0
+
+  start-told : (g ≤ most) × (h ≤ most) × (length (map f ls) ≤ room) × (sum (map f ls) + sum (map s ls) ≤ most)
+  start-told = sharing-told g h (map f ls) (map s ls) room start-shares
+
+  start-first : p ≡ potAt g (sumBy f ls) 0
+  start-first = ap (λ r. r .0) (started .1) ∙ ap (λ w. potAt g w 0) (sum-map f ls)
+
+  start-second : q ≡ potAt h (sumBy s ls) 0
+  start-second = ap (λ r. r .1) (started .1) ∙ ap (λ w. potAt h w 0) (sum-map s ls)
+
+  pub total-first : p .total ≡ g
+  total-first = ap (λ r. r .total) start-first
+
+  pub total-second : q .total ≡ h
+  total-second = ap (λ r. r .total) start-second
+
+  -- what serving all lines requires
+  pub start : (p ≡ potAt (p .total) (sumBy f ls) 0) × (q ≡ potAt (q .total) (sumBy s ls) 0) × ((p .total ≤ most) × (q .total ≤ most)) × (sumBy f ls + sumBy s ls ≤ most) × (length ls ≤ room)
+  start = (
+    start-first ∙ ap (λ t. potAt t (sumBy f ls) 0) (sym total-first),
+    start-second ∙ ap (λ t. potAt t (sumBy s ls) 0) (sym total-second),
+    (omega (arith, total-first, start-told .0), omega (arith, total-second, start-told .1)),
+    omega (arith, start-told .3, sum-map f ls, sum-map s ls),
+    omega (arith, start-told .2, length-map ls f),
+  )

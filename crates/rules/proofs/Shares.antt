@@ -23,17 +23,27 @@ upTo-rises g (suc v) c x = rises g (suc v) c x (omega arith)
 pub upTo-none : (g w : ℕ) → upTo g w 0 ≡ 0
 upTo-none g w = ap (λ n. n / w) (mul-zero g) ∙ zero-div w
 
+-- lines of no more than the whole weight receive no more than the total
+pub upTo-le : (g w c : ℕ) → c ≤ w → upTo g w c ≤ g
+upTo-le g zero c h = omega (arith, div-zero (g * c))
+upTo-le g (suc v) c h = within g (suc v) c (omega arith) h
+  where
+    within : (g w c : ℕ) → 0 < w → c ≤ w → upTo g w c ≤ g
+    within g w c p h =
+        let all : upTo g w (c + (w - c)) ≡ g = ap (upTo g w) (omega arith) ∙ mul-div-cancel g p in
+        omega (arith, upTo-rises g w c (w - c), all)
+
 pub upTo-small : (g w c : ℕ) → g ≤ most → c ≤ most → upTo g w c ≤ most * most
 upTo-small g w c p q = omega (arith, div-le-self (g * c) w, mul-le g c most most p q)
 
-sum-cons : (x : ℕ) (xs : List ℕ) → sum (x ∷ xs) ≡ x + sum xs
+pub sum-cons : (x : ℕ) (xs : List ℕ) → sum (x ∷ xs) ≡ x + sum xs
 sum-cons x xs = sumBy-cons (λ y. y) x xs
 
 pub length-shares : (g w c : ℕ) (ws : List ℕ) → length (sharesAfter g w c ws) ≡ length ws
 length-shares g w c [] = refl
 length-shares g w c (x ∷ xs) = ap suc (length-shares g w (c + x) xs)
 
-sum-after : (g w c : ℕ) (ws : List ℕ) → sum (sharesAfter g w c ws) + upTo g w c ≡ upTo g w (c + sum ws)
+pub sum-after : (g w c : ℕ) (ws : List ℕ) → sum (sharesAfter g w c ws) + upTo g w c ≡ upTo g w (c + sum ws)
 sum-after g w c [] = zero-add (upTo g w c) ∙ ap (upTo g w) (sym (add-zero c))
 sum-after g w c (x ∷ xs) =
     let ih = sum-after g w (c + x) xs in
@@ -107,7 +117,7 @@ plus-push [] (y ∷ ys) a b e = empty-long (length ys) e
 plus-push (x ∷ xs) [] a b e = long-empty (length xs) e
 plus-push (x ∷ xs) (y ∷ ys) a b e = ap (λ t. (x + y) ∷ t) (plus-push xs ys a b (omega arith))
 
-sum-plus : (xs ys : List ℕ) → length xs ≡ length ys → sum (plus xs ys) ≡ sum xs + sum ys
+pub sum-plus : (xs ys : List ℕ) → length xs ≡ length ys → sum (plus xs ys) ≡ sum xs + sum ys
 sum-plus [] [] e = refl
 sum-plus [] (y ∷ ys) e = empty-long (length ys) e
 sum-plus (x ∷ xs) [] e = long-empty (length xs) e

@@ -11,13 +11,13 @@ use Rattle.std.specs.shelf.Lists.{sum, sumBy}
 use Rattle.std.specs.declared.result.Result.{Result}
 use Rattle.std.specs.declared.result.Result.the-variants.{Ok, Err}
 use Rattle.std.proofs.shelf.Sums.{sum-map}
-use Rattle.std.proofs.shelf.Tests.{cond-true, cond-false, cond-both, le-leb, lt-leb, leb-true, and-from, and-left, and-right}
+use Rattle.std.proofs.shelf.Tests.{cond-true, cond-false, cond-both, le-leb, lt-leb, leb-true, and-parts, and-from, and-left, and-right}
 use Rattle.refusals.specs.declared.Refusal.{Refusal}
 use Rattle.refusals.specs.declared.Cause.the-variants.{OutOfRange, ListTooShort, LoadsTooHigh}
 use Rattle.refusals.specs.declared.Layer.the-variants.{Sheet, Sharing}
 use Rattle.refusals.specs.Numbers.{refusal}
 use Rattle.rules.specs.Ranges.{most}
-use Rattle.rules.specs.Shares.{weighed, ifWeighed, sharing, ifShared, shared, finals}
+use Rattle.rules.specs.Shares.{weighed, ifWeighed, sharing, unlessRefused, ifShared, shared, finals}
 
 -- the weights of lines, as sums over them
 module _ {L : Type 0} (f s : L → ℕ) (ls : List L) where
@@ -32,15 +32,13 @@ module _ {L : Type 0} (f s : L → ℕ) (ls : List L) where
   pub weighed-heavy : most < sumBy f ls + sumBy s ls → Err (refusal LoadsTooHigh Sharing 0) ≡ weighed (map f ls) (map s ls)
   weighed-heavy h = sym (cond-false _ _ _ (lt-leb (sum (map f ls) + sum (map s ls)) most (omega (arith, both-sums))))
 
-  -- what an answer tells
-  pub weights-told : (t : ℕ × ℕ) → Ok t ≡ weighed (map f ls) (map s ls) → (t .0 ≡ sumBy f ls) × (t .1 ≡ sumBy s ls) × (sumBy f ls + sumBy s ls ≤ most)
-  weights-told t =
-      let P : Result (ℕ × ℕ) Refusal → Type 0 = λ r. Ok t ≡ r → (t .0 ≡ sumBy f ls) × (t .1 ≡ sumBy s ls) × (sumBy f ls + sumBy s ls ≤ most) in
-      cond-both (leb (sum (map f ls) + sum (map s ls)) most) (Ok (sum (map f ls), sum (map s ls))) (Err (refusal LoadsTooHigh Sharing 0)) P
-      (λ yes e.
-      let t-is : t ≡ (sum (map f ls), sum (map s ls)) = cc in
-      (ap (λ u. u .0) t-is ∙ sum-map f ls, ap (λ u. u .1) t-is ∙ sum-map s ls, omega (arith, both-sums, leb-true (sum (map f ls) + sum (map s ls)) most yes)))
-      (λ no e. let z : _≡_ {A = ℕ} 0 1 = cc in absurd (omega arith))
+-- what an answer tells
+pub weights-are : (ws vs : List ℕ) (t : ℕ × ℕ) → Ok t ≡ weighed ws vs → (t .0 ≡ sum ws) × (t .1 ≡ sum vs) × (sum ws + sum vs ≤ most)
+weights-are ws vs t =
+    let P : Result (ℕ × ℕ) Refusal → Type 0 = λ r. Ok t ≡ r → (t .0 ≡ sum ws) × (t .1 ≡ sum vs) × (sum ws + sum vs ≤ most) in
+    cond-both (leb (sum ws + sum vs) most) (Ok (sum ws, sum vs)) (Err (refusal LoadsTooHigh Sharing 0)) P
+    (λ yes e. let t-is : t ≡ (sum ws, sum vs) = cc in (ap (λ u. u .0) t-is, ap (λ u. u .1) t-is, leb-true (sum ws + sum vs) most yes))
+    (λ no e. let z : _≡_ {A = ℕ} 0 1 = cc in absurd (omega arith))
 
 -- what sharing answers
 module _ (g h : ℕ) (ws vs : List ℕ) (room : ℕ) where
@@ -57,6 +55,31 @@ module _ (g h : ℕ) (ws vs : List ℕ) (room : ℕ) where
 
     pub share-weighs : length ws ≤ room → sharing g h ws vs room ≡ ifWeighed (weighed ws vs)
     share-weighs e = cond-true _ _ _ in-range ∙ cond-true _ _ _ (le-leb (length ws) room e)
+
+  weights-light : ifWeighed (weighed ws vs) ≡ Ok tt → sum ws + sum vs ≤ most
+  weights-light =
+      cond-both (leb (sum ws + sum vs) most) (Ok (sum ws, sum vs)) (Err (refusal LoadsTooHigh Sharing 0)) (λ r. ifWeighed r ≡ Ok tt → sum ws + sum vs ≤ most)
+      (λ yes e. leb-true (sum ws + sum vs) most yes) (λ no e. let z : _≡_ {A = ℕ} 0 1 = cc in absurd (omega arith))
+
+  -- what sharing that is not refused tells
+  pub sharing-told : sharing g h ws vs room ≡ Ok tt → (g ≤ most) × (h ≤ most) × (length ws ≤ room) × (sum ws + sum vs ≤ most)
+  sharing-told =
+      let P : Result (Unit {0}) Refusal → Type 0 = λ r. r ≡ Ok tt → (g ≤ most) × (h ≤ most) × (length ws ≤ room) × (sum ws + sum vs ≤ most) in
+      cond-both (leb g most && leb h most) (cond (leb (length ws) room) (ifWeighed (weighed ws vs)) (Err (refusal ListTooShort Sheet 0))) (Err (refusal OutOfRange Sheet 0)) P
+      (λ yes. cond-both (leb (length ws) room) (ifWeighed (weighed ws vs)) (Err (refusal ListTooShort Sheet 0)) P
+      (λ long e. let both = and-parts (leb g most) (leb h most) yes in (leb-true g most (both .0), leb-true h most (both .1), leb-true (length ws) room long, weights-light e))
+      (λ short e. let z : _≡_ {A = ℕ} 0 1 = cc in absurd (omega arith)))
+      (λ no e. let z : _≡_ {A = ℕ} 0 1 = cc in absurd (omega arith))
+
+-- an answer that sharing decides
+module _ {X : Type 0} (x : X) where
+  pub not-refused : (s : Result (Unit {0}) Refusal) (y : X) → Ok y ≡ unlessRefused s x → (s ≡ Ok tt) × (y ≡ x)
+  not-refused (Ok t) y e = (refl, cc)
+  not-refused (Err r) y e = let z : _≡_ {A = ℕ} 0 1 = cc in absurd (omega arith)
+
+  pub was-refused : (s : Result (Unit {0}) Refusal) (r : Refusal) → Err r ≡ unlessRefused s x → s ≡ Err r
+  was-refused (Ok t) r e = let z : _≡_ {A = ℕ} 0 1 = cc in absurd (omega arith)
+  was-refused (Err q) r e = let same : q ≡ r = cc in ap Err same
 
 -- what it leaves in the list
 module _ {X : Type 0} (amount : ℕ → X) (g h : ℕ) (ws vs : List ℕ) (list : List X) where

@@ -4,6 +4,7 @@ pub mod Lines
 pub mod Peaks
 pub mod Shares
 pub mod Pots
+pub mod Obligations
 pub mod Parts
 pub mod Percents
 pub mod Figures

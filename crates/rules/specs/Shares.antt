@@ -51,6 +51,11 @@ abbrev pub sharing : ℕ → ℕ → List ℕ → List ℕ → ℕ → Result (U
 sharing g h ws vs room =
     cond (leb g most && leb h most) (cond (leb (length ws) room) (ifWeighed (weighed ws vs)) (Err (refusal ListTooShort Sheet 0))) (Err (refusal OutOfRange Sheet 0))
 
+-- x, unless sharing is refused
+abbrev pub unlessRefused : {X : Type 0} → Result (Unit {0}) Refusal → X → Result X Refusal
+unlessRefused (Ok t) x = Ok x
+unlessRefused (Err e) x = Err e
+
 abbrev pub ifShared : {X : Type 0} → Result (Unit {0}) Refusal → X → X → X
 ifShared (Ok t) new old = new
 ifShared (Err e) new old = old

@@ -3,6 +3,7 @@
 pub mod arrangements;
 pub mod lines;
 mod loads;
+pub mod obliging;
 pub mod peaks;
 pub mod percent;
 mod ranges;
@@ -15,6 +16,7 @@ pub mod worked;
 pub use arrangements::Arrangement;
 pub use arrangements::ProRata;
 pub use lines::Line;
+pub use obliging::obligations;
 pub use peaks::PeakLine;
 pub use percent::Percent;
 pub use ranges::MISSING;

@@ -5,8 +5,8 @@ ghost use Prim.Native.Nat.{ℕ, _+_, _-_, _*_, _≤_};
 ghost use lib.ListN.{length, drop};
 ghost use Rattle.std.specs.shelf.Lists.{sumBy};
 ghost use Rattle.rules.specs.Ranges.{most};
-ghost use Rattle.rules.specs.Shares.{upTo, finals, weighed, sharing, shared, Sharing-laws};
-ghost use Rattle.rules.specs.Pots.{potAt};
+ghost use Rattle.rules.specs.Shares.{upTo, finals, weighed, sharing, unlessRefused, shared, Sharing-laws};
+ghost use Rattle.rules.specs.Pots.{potAt, potsOf};
 use crate::refused::LIST_TOO_SHORT;
 use crate::refused::LOADS_TOO_HIGH;
 use crate::refused::OUT_OF_RANGE;
@@ -37,14 +37,14 @@ pub const MOST: u64 = 3_000_000_000;
 
 /// A total on its way to the lines of a group.
 #[derive(Clone, Copy)]
-struct Pot {
-    total: u64,
+pub(crate) struct Pot {
+    pub(crate) total: u64,
     /// The weight of all lines of the group.
-    whole: u64,
+    pub(crate) whole: u64,
     /// The weight of the lines that have their share.
-    served: u64,
+    pub(crate) served: u64,
     /// What those received.
-    given: u64,
+    pub(crate) given: u64,
 }
 
 impl Pot {
@@ -60,7 +60,7 @@ impl Pot {
     }
 
     /// The share of the next line. One without weight needs no quotient.
-    fn serve(&mut self, weight: u64) -> u64
+    pub(crate) fn serve(&mut self, weight: u64) -> u64
         requires total { ⌜ now self .total ≤ most ⌝ }
         requires whole { ⌜ now self .whole ≤ most ⌝ }
         requires rest { ⌜ now self .served + weight ≤ now self .whole ⌝ }
@@ -97,6 +97,25 @@ pub fn weigh<L: Weighted>(lines: &[L]) -> Result<(u64, u64), Refusal>
     Ok((first, second))
 }
 
+/// The pots of both totals; refused unless each line has a place.
+pub(crate) fn pots<L: Weighted>(
+    first: u64,
+    second: u64,
+    lines: &[L],
+    places: usize,
+) -> Result<(Pot, Pot), Refusal>
+    ensures { λ r. ⌜ r ≡ unlessRefused (sharing first second (map inFirst (now (lines .entry))) (map inSecond (now (lines .entry))) places) (potsOf first second (map inFirst (now (lines .entry))) (map inSecond (now (lines .entry)))) ⌝ }
+{
+    if first > MOST || second > MOST {
+        return Err(OUT_OF_RANGE);
+    }
+    if places < lines.len() {
+        return Err(LIST_TOO_SHORT);
+    }
+    let (first_whole, second_whole) = weigh(lines)?;
+    Ok((Pot::new(first, first_whole), Pot::new(second, second_whole)))
+}
+
 /// Serves each line from both pots. A line has weight in one group, and its share of the other total is 0.
 fn serve_all<L: Weighted>(mut first: Pot, mut second: Pot, lines: &[L], list: &mut [L::Unit])
     requires first { ⌜ first ≡ potAt (first .total) (sumBy inFirst (now lines)) 0 ⌝ }
@@ -124,18 +143,7 @@ pub fn share<L: Weighted>(
     ensures written { λ _. ⌜ now (list .exit) ≡ shared amounts first second (map inFirst (now (lines .entry))) (map inSecond (now (lines .entry))) (now (list .entry)) ⌝ }
     ensures laws { λ _. ⌜ Sharing-laws ⌝ }
 {
-    if first > MOST || second > MOST {
-        return Err(OUT_OF_RANGE);
-    }
-    if list.len() < lines.len() {
-        return Err(LIST_TOO_SHORT);
-    }
-    let (first_whole, second_whole) = weigh(lines)?;
-    serve_all(
-        Pot::new(first, first_whole),
-        Pot::new(second, second_whole),
-        lines,
-        list,
-    );
+    let (first_pot, second_pot) = pots(first, second, lines, list.len())?;
+    serve_all(first_pot, second_pot, lines, list);
     Ok(())
 }
