@@ -6,3 +6,4 @@ pub mod Entries
 pub mod Calls
 pub mod Sheets
 pub mod Checks
+pub mod Settling

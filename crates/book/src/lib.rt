@@ -3,6 +3,7 @@ mod checks;
 mod opening;
 mod ranges;
 mod roster;
+mod settling;
 mod sheet;
 mod slip;
 
@@ -10,5 +11,8 @@ pub use checks::Checked;
 pub use opening::Book;
 pub use roster::Entry;
 pub use roster::Roster;
+pub use settling::LineAccounted;
+pub use settling::LineChecked;
+pub use settling::settle;
 pub use sheet::Accounted;
 pub use slip::Slip;
