@@ -18,7 +18,7 @@ use Rattle.rows.specs.declared.Kind.{Kind}
 use Rattle.archive.specs.declared.adjusting.Slot.{Slot}
 use Rattle.archive.specs.Contents.{Contents, refusing, kept}
 use Rattle.archive.specs.Sums.{sumOf, sumsOf}
-use Rattle.archive.specs.Adjusting.{lawfulSlot, allInRange, wantedBy, dueTo, lacks, lacking, rowsFor, withRows, adjusting, adjusted}
+use Rattle.archive.specs.Adjusting.{lawfulSlot, allInRange, wantedBy, dueTo, lacks, lacking, rowsFor, withRows, booking, adjusting, adjusted}
 use Rattle.archive.proofs.Dues.{allInRange-same, rowsFor-same}
 
 pub sumsOf-at : (k : Kind) (d h s : ℕ) (rs : List Row) → 1 ≤ s → s ≤ 32 → getD (sumsOf k d h rs) (s - 1) (pos 0) ≡ sumOf k d h s rs
@@ -54,6 +54,10 @@ module _ (c : Contents) (slot : Slot) (wanted : List ℕ) where
 
   pub all-placed : lawfulSlot slot ≡ true → allInRange (dueTo slot wanted (c .rows)) 32 ≡ true → length (lacking slot wanted (c .rows)) ≤ c .free → Ok (length (lacking slot wanted (c .rows))) ≡ adjusting c slot wanted
   all-placed p q l = by-checks true true true p q (le-leb (length new) (c .free) l)
+
+  pub adjusting-is : lawfulSlot slot ≡ true → adjusting c slot wanted ≡ booking c slot wanted
+  unfolding adjusting
+  adjusting-is p = ap (λ b. cond b (booking c slot wanted) (Err (refusing UnlawfulRow 0))) p
 
   pub adjusted-by : (a : Result ℕ Refusal) → a ≡ adjusting c slot wanted → kept a (withRows c (lacking slot wanted (c .rows))) c ≡ adjusted c slot wanted
   adjusted-by a e = ap (λ x. kept x (withRows c new) c) e

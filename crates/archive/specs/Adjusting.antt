@@ -63,10 +63,14 @@ lacks wanted sums s = pos (wantedBy wanted s) -ℤ getD sums (s - 1) (pos 0)
 abbrev pub lacking : Slot → List ℕ → List Row → List Row
 lacking slot wanted rs = rowsFor slot (dueTo slot wanted rs) 32
 
+-- rows of all that is lacking, if rows can hold it and there are places for them
+abbrev pub booking : Contents → Slot → List ℕ → Result ℕ Refusal
+booking c slot wanted =
+    cond (allInRange (dueTo slot wanted (c .rows)) 32) (cond (leb (length (lacking slot wanted (c .rows))) (c .free)) (Ok (length (lacking slot wanted (c .rows)))) (Err (refusing ArchiveFull 0))) (Err (refusing AmountTooLarge 0))
+
 -- what adjusting answers
 unfoldable pub adjusting : Contents → Slot → List ℕ → Result ℕ Refusal
-adjusting c slot wanted =
-    cond (lawfulSlot slot) (cond (allInRange (dueTo slot wanted (c .rows)) 32) (cond (leb (length (lacking slot wanted (c .rows))) (c .free)) (Ok (length (lacking slot wanted (c .rows)))) (Err (refusing ArchiveFull 0))) (Err (refusing AmountTooLarge 0))) (Err (refusing UnlawfulRow 0))
+adjusting c slot wanted = cond (lawfulSlot slot) (booking c slot wanted) (Err (refusing UnlawfulRow 0))
 
 -- the archive with these rows put last
 abbrev pub withRows : Contents → List Row → Contents
