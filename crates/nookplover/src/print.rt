@@ -1,0 +1,116 @@
+//! What the program prints, as bytes put after those that wait to be written.
+ghost use mathlib.Core.Path.{_≡_};
+ghost use mathlib.Core.List.{_++_};
+ghost use Prim.Native.Nat.{_<_};
+ghost use Rattle.std.specs.Of.Vec.{vec-items};
+ghost use Rattle.std.specs.Vec.{made};
+ghost use Rattle.std.specs.Written.{decimal};
+ghost use Rattle.nookplover.specs.Numerals.{hexDigit, hexOf};
+ghost use Rattle.nookplover.specs.Texts.{callWords, refusedWords, rowsWords, endWords};
+use crate::journal::Call;
+use refusals::Refusal;
+use std::alloc::AllocError;
+
+fn put_number(out: &mut Vec<u8>, n: u64) -> Result<(), AllocError>
+    ensures { λ r. ⌜ made r (λ _. vec-items (now (out .exit)) ≡ vec-items (now (out .entry)) ++ decimal n) ⌝ }
+{
+    if n >= 10 {
+        put_number(out, n / 10)?;
+    }
+    out.push(b'0' + (n % 10) as u8)?;
+    Ok(())
+}
+
+fn hex_digit(n: u8) -> u8
+    requires { ⌜ n < 16 ⌝ }
+    ensures { λ r. ⌜ r ≡ hexDigit n ⌝ }
+{
+    if n < 10 { b'0' + n } else { b'A' + (n - 10) }
+}
+
+/// Each byte as two hexadecimal digits, in capitals.
+pub(crate) fn put_hex(out: &mut Vec<u8>, bytes: &[u8]) -> Result<(), AllocError>
+    ensures { λ r. ⌜ made r (λ _. vec-items (now (out .exit)) ≡ vec-items (now (out .entry)) ++ hexOf (now (bytes .entry))) ⌝ }
+{
+    for b in bytes {
+        out.push(hex_digit(*b / 16))?;
+        out.push(hex_digit(*b % 16))?;
+    }
+    Ok(())
+}
+
+/// The words of a call.
+pub(crate) fn put_call(out: &mut Vec<u8>, call: &Call) -> Result<(), AllocError>
+    ensures { λ r. ⌜ made r (λ _. vec-items (now (out .exit)) ≡ vec-items (now (out .entry)) ++ callWords (now (call .entry))) ⌝ }
+{
+    match call {
+        Call::TakeIn(bytes) => {
+            out.extend_from_slice(b"takein")?;
+            if !bytes.is_empty() {
+                out.push(b' ')?;
+                put_hex(out, bytes.as_slice())?;
+            }
+            Ok(())
+        }
+        Call::List { day, hour, bytes } => {
+            out.extend_from_slice(b"list ")?;
+            put_number(out, *day as u64)?;
+            out.push(b' ')?;
+            put_number(out, *hour as u64)?;
+            if let Some(size) = bytes {
+                out.push(b' ')?;
+                put_number(out, *size as u64)?;
+            }
+            Ok(())
+        }
+        Call::Dump => {
+            out.extend_from_slice(b"dump")?;
+            Ok(())
+        }
+    }
+}
+
+/// `refused NUMBER LAYER PLACE`.
+pub(crate) fn put_refusal(out: &mut Vec<u8>, refusal: Refusal) -> Result<(), AllocError>
+    ensures { λ r. ⌜ made r (λ _. vec-items (now (out .exit)) ≡ vec-items (now (out .entry)) ++ refusedWords refusal) ⌝ }
+{
+    out.extend_from_slice(b"refused ")?;
+    put_number(out, refusal.cause.number() as u64)?;
+    out.push(b' ')?;
+    put_number(out, refusal.layer.number() as u64)?;
+    out.push(b' ')?;
+    put_number(out, refusal.place as u64)
+}
+
+/// `N rows`.
+pub(crate) fn put_rows(out: &mut Vec<u8>, rows: usize) -> Result<(), AllocError>
+    ensures { λ r. ⌜ made r (λ _. vec-items (now (out .exit)) ≡ vec-items (now (out .entry)) ++ rowsWords rows) ⌝ }
+{
+    put_number(out, rows as u64)?;
+    out.extend_from_slice(b" rows")
+}
+
+/// A length.
+pub(crate) fn put_length(out: &mut Vec<u8>, length: usize) -> Result<(), AllocError>
+    ensures { λ r. ⌜ made r (λ _. vec-items (now (out .exit)) ≡ vec-items (now (out .entry)) ++ decimal length) ⌝ }
+{
+    put_number(out, length as u64)
+}
+
+/// `end: R rows, F free, E entries`.
+pub(crate) fn put_end(
+    out: &mut Vec<u8>,
+    rows: usize,
+    free: usize,
+    entries: usize,
+) -> Result<(), AllocError>
+    ensures { λ r. ⌜ made r (λ _. vec-items (now (out .exit)) ≡ vec-items (now (out .entry)) ++ endWords rows free entries) ⌝ }
+{
+    out.extend_from_slice(b"end: ")?;
+    put_rows(out, rows)?;
+    out.extend_from_slice(b", ")?;
+    put_number(out, free as u64)?;
+    out.extend_from_slice(b" free, ")?;
+    put_number(out, entries as u64)?;
+    out.extend_from_slice(b" entries")
+}
