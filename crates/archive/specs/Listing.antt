@@ -56,6 +56,7 @@ abbrev pub listed : ℕ → ℕ → List Row → List ℕ → List ℕ
 listed day hour rs out = kept (listing day hour rs (length out)) (hourText day hour rs ++ drop (length (hourText day hour rs)) out) out
 
 -- sums of at most 3,000,000,000,000,000 either way
-pub record Small (sums : List ℤ) (zone : ℤ) : Type 0 where
+pub record Small (sums : List ℤ) (all : ℤ) : Type 0 where
+  pub many : length sums ≡ 32
   pub suppliers : (s : ℕ) → s < 32 → natAbs (getD sums s (pos 0)) ≤ 3000000000000000
-  pub zone : natAbs zone ≤ 3000000000000000
+  pub zone : natAbs all ≤ 3000000000000000

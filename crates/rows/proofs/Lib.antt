@@ -1,0 +1,5 @@
+pub mod Digits
+pub mod Lawfully
+pub mod Written
+pub mod Found
+pub mod Fronts
