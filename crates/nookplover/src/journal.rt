@@ -109,7 +109,7 @@ struct Figure<'a> {
     rest: &'a [u8],
 }
 
-fn figure(line: &[u8]) -> Result<Figure<'_>, Problem> {
+fn next_figure(line: &[u8]) -> Result<Figure<'_>, Problem> {
     let word = next_word(line);
     if word.front.is_empty() {
         return Err(Problem::WordMissing);
@@ -124,7 +124,7 @@ fn figure(line: &[u8]) -> Result<Figure<'_>, Problem> {
 }
 
 fn figure_up_to(line: &[u8], most: u32) -> Result<Figure<'_>, Problem> {
-    let read = figure(line)?;
+    let read = next_figure(line)?;
     if read.value > most {
         return Err(Problem::TooLarge);
     }
@@ -169,8 +169,8 @@ fn read_take_in(heap: Global, line: &[u8]) -> Result<Call, Problem> {
 
 // `list DAY HOUR`, or `list DAY HOUR BYTES`.
 fn read_list(line: &[u8]) -> Result<Call, Problem> {
-    let day = figure(line)?;
-    let hour = figure(day.rest)?;
+    let day = next_figure(line)?;
+    let hour = next_figure(day.rest)?;
     let mut bytes = None;
     if at_end(hour.rest).is_err() {
         let size = figure_up_to(hour.rest, 1_000_000)?;

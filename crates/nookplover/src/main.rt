@@ -59,7 +59,7 @@ impl fmt::Display for Failure as FailureDisplay {
     }
 }
 
-fn source(rt: &LibcRuntime) -> Result<Source, Failure> {
+fn find_source(rt: &LibcRuntime) -> Result<Source, Failure> {
     let Ok(mut words) = env::args(rt) else {
         return Err(Failure::Usage);
     };
@@ -121,7 +121,7 @@ fn run_journal(rt: &LibcRuntime, journal: &Journal) -> io::Result<()> {
 }
 
 fn program(rt: &LibcRuntime) -> Result<(), Failure> {
-    let source = source(rt)?;
+    let source = find_source(rt)?;
     let text = match read_all(rt, &source) {
         Ok(text) => text,
         Err(e) => return Err(Failure::Input(e)),

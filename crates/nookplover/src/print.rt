@@ -6,7 +6,7 @@ ghost use Rattle.std.specs.Of.Vec.{vec-items};
 ghost use Rattle.std.specs.Vec.{made};
 ghost use Rattle.std.specs.Written.{decimal};
 ghost use Rattle.nookplover.specs.Numerals.{hexDigit, hexOf};
-ghost use Rattle.nookplover.specs.Texts.{callWords, refusedWords, rowsWords, endWords};
+ghost use Rattle.nookplover.specs.Texts.{spaced, takeInWords, listWords, callWords, refusedWords, rowsWords, endWords};
 use crate::journal::Call;
 use refusals::Refusal;
 use std::alloc::AllocError;
@@ -39,34 +39,47 @@ pub(crate) fn put_hex(out: &mut Vec<u8>, bytes: &[u8]) -> Result<(), AllocError>
     Ok(())
 }
 
+// A space and a number.
+fn put_spaced(out: &mut Vec<u8>, n: u64) -> Result<(), AllocError>
+    ensures { λ r. ⌜ made r (λ _. vec-items (now (out .exit)) ≡ vec-items (now (out .entry)) ++ spaced n) ⌝ }
+{
+    out.push(b' ')?;
+    put_number(out, n)?;
+    Ok(())
+}
+
+fn put_take_in(out: &mut Vec<u8>, bytes: &[u8]) -> Result<(), AllocError>
+    ensures { λ r. ⌜ made r (λ _. vec-items (now (out .exit)) ≡ vec-items (now (out .entry)) ++ takeInWords (now (bytes .entry))) ⌝ }
+{
+    out.extend_from_slice(b"takein")?;
+    if bytes.is_empty() {
+        return Ok(());
+    }
+    out.push(b' ')?;
+    put_hex(out, bytes)?;
+    Ok(())
+}
+
+fn put_list(out: &mut Vec<u8>, day: u32, hour: u32, bytes: Option<u32>) -> Result<(), AllocError>
+    ensures { λ r. ⌜ made r (λ _. vec-items (now (out .exit)) ≡ vec-items (now (out .entry)) ++ listWords day hour bytes) ⌝ }
+{
+    out.extend_from_slice(b"list")?;
+    put_spaced(out, day as u64)?;
+    put_spaced(out, hour as u64)?;
+    if let Some(size) = bytes {
+        put_spaced(out, size as u64)?;
+    }
+    Ok(())
+}
+
 /// The words of a call.
 pub(crate) fn put_call(out: &mut Vec<u8>, call: &Call) -> Result<(), AllocError>
     ensures { λ r. ⌜ made r (λ _. vec-items (now (out .exit)) ≡ vec-items (now (out .entry)) ++ callWords (now (call .entry))) ⌝ }
 {
     match call {
-        Call::TakeIn(bytes) => {
-            out.extend_from_slice(b"takein")?;
-            if !bytes.is_empty() {
-                out.push(b' ')?;
-                put_hex(out, bytes.as_slice())?;
-            }
-            Ok(())
-        }
-        Call::List { day, hour, bytes } => {
-            out.extend_from_slice(b"list ")?;
-            put_number(out, *day as u64)?;
-            out.push(b' ')?;
-            put_number(out, *hour as u64)?;
-            if let Some(size) = bytes {
-                out.push(b' ')?;
-                put_number(out, *size as u64)?;
-            }
-            Ok(())
-        }
-        Call::Dump => {
-            out.extend_from_slice(b"dump")?;
-            Ok(())
-        }
+        Call::TakeIn(bytes) => put_take_in(out, bytes.as_slice()),
+        Call::List { day, hour, bytes } => put_list(out, *day, *hour, *bytes),
+        Call::Dump => out.extend_from_slice(b"dump"),
     }
 }
 
@@ -74,20 +87,11 @@ pub(crate) fn put_call(out: &mut Vec<u8>, call: &Call) -> Result<(), AllocError>
 pub(crate) fn put_refusal(out: &mut Vec<u8>, refusal: Refusal) -> Result<(), AllocError>
     ensures { λ r. ⌜ made r (λ _. vec-items (now (out .exit)) ≡ vec-items (now (out .entry)) ++ refusedWords refusal) ⌝ }
 {
-    out.extend_from_slice(b"refused ")?;
-    put_number(out, refusal.cause.number() as u64)?;
-    out.push(b' ')?;
-    put_number(out, refusal.layer.number() as u64)?;
-    out.push(b' ')?;
-    put_number(out, refusal.place as u64)
-}
-
-/// `N rows`.
-pub(crate) fn put_rows(out: &mut Vec<u8>, rows: usize) -> Result<(), AllocError>
-    ensures { λ r. ⌜ made r (λ _. vec-items (now (out .exit)) ≡ vec-items (now (out .entry)) ++ rowsWords rows) ⌝ }
-{
-    put_number(out, rows as u64)?;
-    out.extend_from_slice(b" rows")
+    out.extend_from_slice(b"refused")?;
+    put_spaced(out, refusal.cause.number() as u64)?;
+    put_spaced(out, refusal.layer.number() as u64)?;
+    put_spaced(out, refusal.place as u64)?;
+    Ok(())
 }
 
 /// A length.
@@ -95,6 +99,22 @@ pub(crate) fn put_length(out: &mut Vec<u8>, length: usize) -> Result<(), AllocEr
     ensures { λ r. ⌜ made r (λ _. vec-items (now (out .exit)) ≡ vec-items (now (out .entry)) ++ decimal length) ⌝ }
 {
     put_number(out, length as u64)
+}
+
+// A count and what is counted.
+fn put_count(out: &mut Vec<u8>, n: usize, unit: &[u8]) -> Result<(), AllocError>
+    ensures { λ r. ⌜ made r (λ _. vec-items (now (out .exit)) ≡ vec-items (now (out .entry)) ++ (decimal n ++ now (unit .entry))) ⌝ }
+{
+    put_number(out, n as u64)?;
+    out.extend_from_slice(unit)?;
+    Ok(())
+}
+
+/// `N rows`.
+pub(crate) fn put_rows(out: &mut Vec<u8>, rows: usize) -> Result<(), AllocError>
+    ensures { λ r. ⌜ made r (λ _. vec-items (now (out .exit)) ≡ vec-items (now (out .entry)) ++ rowsWords rows) ⌝ }
+{
+    put_count(out, rows, b" rows")
 }
 
 /// `end: R rows, F free, E entries`.
@@ -107,10 +127,8 @@ pub(crate) fn put_end(
     ensures { λ r. ⌜ made r (λ _. vec-items (now (out .exit)) ≡ vec-items (now (out .entry)) ++ endWords rows free entries) ⌝ }
 {
     out.extend_from_slice(b"end: ")?;
-    put_rows(out, rows)?;
-    out.extend_from_slice(b", ")?;
-    put_number(out, free as u64)?;
-    out.extend_from_slice(b" free, ")?;
-    put_number(out, entries as u64)?;
-    out.extend_from_slice(b" entries")
+    put_count(out, rows, b" rows, ")?;
+    put_count(out, free, b" free, ")?;
+    put_count(out, entries, b" entries")?;
+    Ok(())
 }

@@ -1,5 +1,6 @@
 //! The bytes of a journal: lines, words, numbers and hexadecimal pairs.
 ghost use mathlib.Core.Path.{_≡_};
+ghost use Prim.Native.Nat.{_≤_};
 ghost use lib.ListN.{length};
 ghost use Rattle.std.specs.shelf.Lists.{leading};
 ghost use Rattle.std.specs.Options.{mapped};
@@ -40,7 +41,8 @@ fn is_of(stretch: Stretch, b: u8) -> bool
 
 // How many bytes at the front belong to the stretch.
 fn span(bytes: &[u8], stretch: Stretch) -> usize
-    ensures { λ r. ⌜ r ≡ leading (belongs stretch) (now (bytes .entry)) ⌝ }
+    ensures count { λ r. ⌜ r ≡ leading (belongs stretch) (now (bytes .entry)) ⌝ }
+    ensures within { λ r. ⌜ r ≤ length (now (bytes .entry)) ⌝ }
 {
     for (i, b) in bytes.iter().enumerate() {
         if !is_of(stretch, *b) {
@@ -50,26 +52,27 @@ fn span(bytes: &[u8], stretch: Stretch) -> usize
     bytes.len()
 }
 
-/// The first word of a line, empty where there is none.
+/// The first word of a line, empty where there is none, and what follows it.
 pub(crate) fn next_word(line: &[u8]) -> Cut<'_>
     ensures front { λ r. ⌜ now (r .front) ≡ firstWord (now (line .entry)) ⌝ }
     ensures rest { λ r. ⌜ now (r .rest) ≡ afterWord (now (line .entry)) ⌝ }
 {
-    let start = span(line, Stretch::Blank);
-    let rest = &line[start..];
-    let length = span(rest, Stretch::Word);
-    Cut {
-        front: &rest[0..length],
-        rest: &rest[length..],
-    }
+    let (_, words) = line.split_at(span(line, Stretch::Blank));
+    let (front, rest) = words.split_at(span(words, Stretch::Word));
+    Cut { front, rest }
 }
 
 fn without_return(line: &[u8]) -> &[u8]
     ensures { λ r. ⌜ now r ≡ withoutReturn (now (line .entry)) ⌝ }
 {
-    match line {
-        [front @ .., b'\r'] => front,
-        _ => line,
+    let length = line.len();
+    if length == 0 {
+        return line;
+    }
+    if line[length - 1] == b'\r' {
+        &line[0..length - 1]
+    } else {
+        line
     }
 }
 
@@ -79,15 +82,17 @@ pub(crate) fn next_line(text: &[u8]) -> Cut<'_>
     ensures rest { λ r. ⌜ now (r .rest) ≡ afterLine (now (text .entry)) ⌝ }
 {
     let length = span(text, Stretch::Line);
+    let (line, end) = text.split_at(length);
     if length == text.len() {
         return Cut {
             front: text,
-            rest: &text[length..],
+            rest: end,
         };
     }
+    let (_, rest) = text.split_at(length + 1);
     Cut {
-        front: without_return(&text[0..length]),
-        rest: &text[length + 1..],
+        front: without_return(line),
+        rest,
     }
 }
 
@@ -137,11 +142,12 @@ pub(crate) fn bytes_in(heap: Global, word: &[u8]) -> Result<Option<Vec<u8>>, All
 {
     let mut bytes = Vec::with_capacity(heap, word.len() / 2)?;
     let mut rest = word;
-    while let [high, low, more @ ..] = rest {
-        let Some(byte) = byte_pair(*high, *low) else {
+    while rest.len() >= 2 {
+        let Some(byte) = byte_pair(rest[0], rest[1]) else {
             return Ok(None);
         };
         bytes.push(byte)?;
+        let (_, more) = rest.split_at(2);
         rest = more;
     }
     if rest.is_empty() {

@@ -49,4 +49,5 @@ returns c =
     record {
       answer = sym (accepting (byteContents a) (c .args .row) l some);
       after = appended-is (byteContents a) (c .args .row) _ _ l some (ap (λ u. rowsIn (u + 1) (c .loop-i .self .memory .now)) (c .loop-i .inv .0) ∙ ap (rowsIn (a .used + 1)) m ∙ e) (omega (arith, n, c .loop-i .inv .0));
-      memory = m ∙ ap (λ u. put (a .memory .now) u (c .args .row)) (sym (a .whole)) }
+      memory = m ∙ ap (λ u. put (a .memory .now) u (c .args .row)) (sym (a .whole));
+    }
