@@ -1,3 +1,14 @@
 pub mod Packing
 pub mod Putting
 pub mod Records
+pub mod Totals
+pub mod Portions
+pub mod Summing
+pub mod Zoning
+pub mod Growing
+pub mod Lines
+pub mod Listed
+pub mod Reading
+pub mod Taking
+pub mod Answered
+pub mod Again

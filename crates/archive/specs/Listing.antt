@@ -2,11 +2,11 @@
 use mathlib.Core.Path.{_≡_}
 use mathlib.Core.Bool.{Bool, true, false, cond, _&&_}
 use mathlib.Core.List.{List, [], _∷_, _++_, map}
-use Prim.Native.Nat.{ℕ, zero, suc, _+_, _<_, _≤_}
+use Prim.Native.Nat.{ℕ, zero, suc, _+_}
 use lib.Dec.{leb, eqb}
-use lib.IntN.{ℤ, pos, negsuc, natAbs}
+use lib.IntN.{ℤ, pos, negsuc}
 use lib.Chars.{codes}
-use lib.ListN.{length, drop, getD}
+use lib.ListN.{length, take, drop}
 use Rattle.std.specs.Iters.{counting}
 use Rattle.std.specs.Joined.{joined}
 use Rattle.std.specs.Written.{decimal, signed}
@@ -47,16 +47,27 @@ listedKind hour = cond (eqb hour 0) Peak Energy
 unfoldable pub hourText : ℕ → ℕ → List Row → List ℕ
 hourText day hour rs = textOf (sumsOf (listedKind hour) day hour rs) (hourSum (listedKind hour) day hour rs)
 
+-- a day, and an hour or 0
+abbrev pub listable : ℕ → ℕ → Bool
+listable day hour = between 1 60000 day && leb hour 25
+
+-- the length of a text, if it fits memory of so many bytes
+abbrev pub fitting : List ℕ → ℕ → Result ℕ Refusal
+fitting text size = cond (leb (length text) size) (Ok (length text)) (Err (refusing TextTooLong 0))
+
+-- memory in whose first places a text is written
+abbrev pub overwritten : List ℕ → List ℕ → List ℕ
+overwritten text out = text ++ drop (length text) out
+
 -- what the listing answers, for memory of so many bytes
 unfoldable pub listing : ℕ → ℕ → List Row → ℕ → Result ℕ Refusal
-listing day hour rs size = cond (between 1 60000 day && leb hour 25) (cond (leb (length (hourText day hour rs)) size) (Ok (length (hourText day hour rs))) (Err (refusing TextTooLong 0))) (Err (refusing OutOfRange 0))
+listing day hour rs size = cond (listable day hour) (fitting (hourText day hour rs) size) (Err (refusing OutOfRange 0))
 
 -- the memory once the listing has answered
 abbrev pub listed : ℕ → ℕ → List Row → List ℕ → List ℕ
-listed day hour rs out = kept (listing day hour rs (length out)) (hourText day hour rs ++ drop (length (hourText day hour rs)) out) out
+listed day hour rs out = kept (listing day hour rs (length out)) (overwritten (hourText day hour rs) out) out
 
--- sums of at most 3,000,000,000,000,000 either way
-pub record Small (sums : List ℤ) (all : ℤ) : Type 0 where
-  pub many : length sums ≡ 32
-  pub suppliers : (s : ℕ) → s < 32 → natAbs (getD sums s (pos 0)) ≤ 3000000000000000
-  pub zone : natAbs all ≤ 3000000000000000
+-- the first n of the bytes b are a text, and once more is written at its end the first n′ of b′ are
+pub record Grown (b : List ℕ) (n : ℕ) (b′ : List ℕ) (n′ : ℕ) (more : List ℕ) : Type 0 where
+  pub text : take n′ b′ ≡ take n b ++ more
+  pub len : n′ ≡ n + length more

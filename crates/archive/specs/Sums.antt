@@ -2,9 +2,10 @@
 use mathlib.Core.Path.{_≡_}
 use mathlib.Core.Bool.{Bool, true, false, cond, _&&_}
 use mathlib.Core.List.{List, map}
-use Prim.Native.Nat.{ℕ}
+use Prim.Native.Nat.{ℕ, zero, suc, _<_, _≤_}
 use lib.Dec.{eqb}
-use lib.IntN.{ℤ, pos, _+ℤ_}
+use lib.IntN.{ℤ, pos, natAbs, _+ℤ_}
+use lib.ListN.{length, getD}
 use Rattle.std.specs.Iters.{counting}
 use Rattle.std.specs.shelf.Lists.{All, folded}
 use Rattle.rows.specs.declared.Row.{Row}
@@ -45,6 +46,17 @@ hourSum k d h rs = total (hourPortion k d h) rs
 unfoldable pub sumsOf : Kind → ℕ → ℕ → List Row → List ℤ
 sumsOf k d h rs = map (λ s. sumOf k d h s rs) (counting 1 32)
 
+-- f 1 + .. + f n
+unfoldable pub upTo : (ℕ → ℤ) → ℕ → ℤ
+upTo f zero = pos 0
+upTo f (suc n) = upTo f n +ℤ f (suc n)
+
 -- the suppliers' sums add up to that of the hour
 abbrev pub Zone-law : Type 0
-Zone-law = (k : Kind) (d h : ℕ) (rs : List Row) → All Lawful rs → total (λ z. z) (sumsOf k d h rs) ≡ hourSum k d h rs
+Zone-law = (k : Kind) (d h : ℕ) (rs : List Row) → All Lawful rs → upTo (λ s. sumOf k d h s rs) 32 ≡ hourSum k d h rs
+
+-- thirty-two sums and that of all, each at most 3,000,000,000,000,000 either way
+pub record Small (sums : List ℤ) (all : ℤ) : Type 0 where
+  pub many : length sums ≡ 32
+  pub suppliers : (s : ℕ) → s < 32 → natAbs (getD sums s (pos 0)) ≤ 3000000000000000
+  pub zone : natAbs all ≤ 3000000000000000

@@ -51,10 +51,11 @@ fn append_rows<A: Archive>(archive: &mut A, bytes: &[u8])
 {
     let mut rest = bytes;
     for _i in 0..bytes.len() / 15 {
-        if let Ok(read) = Row::read(rest) {
-            let _ = archive.append(read.row);
-            rest = read.rest;
-        }
+        let Ok(read) = Row::read(rest) else {
+            return;
+        };
+        let _ = archive.append(read.row);
+        rest = read.rest;
     }
 }
 

@@ -1,9 +1,10 @@
 ghost use mathlib.Core.Path.{_≡_};
-ghost use mathlib.Core.List.{List, [], _∷_, _++_};
-ghost use Prim.Native.Nat.{ℕ, _+_, _≤_, _<_};
-ghost use lib.ListN.{length, take, drop};
+ghost use mathlib.Core.List.{[], _∷_};
+ghost use Prim.Native.Nat.{_+_, _≤_, _<_};
+ghost use lib.Chars.{codes};
+ghost use lib.ListN.{length, take};
 ghost use Rattle.std.specs.Written.{decimal, signed};
-ghost use Rattle.archive.specs.Listing.{supplierLine, zoneLine, Small};
+ghost use Rattle.archive.specs.Listing.{supplierLine, zoneLine, Grown};
 
 // A text that grows at its end, of at most 720 bytes.
 #[derive(Drop)]
@@ -16,7 +17,7 @@ pub(crate) struct Text {
 
 impl Text {
     pub(crate) fn new() -> Self
-        ensures { λ r. ⌜ take (r .len) (r .bytes) ≡ [] ⌝ }
+        ensures { λ r. ⌜ r .len ≡ 0 ⌝ }
     {
         Text {
             bytes: [0; 720],
@@ -32,7 +33,7 @@ impl Text {
 
     fn byte(&mut self, b: u8)
         requires { ⌜ now self .len < 720 ⌝ }
-        ensures { λ _. ⌜ take (now (self .exit) .len) (now (self .exit) .bytes) ≡ take (now (self .entry) .len) (now (self .entry) .bytes) ++ b ∷ [] ⌝ }
+        ensures { λ _. ⌜ Grown (now (self .entry) .bytes) (now (self .entry) .len) (now (self .exit) .bytes) (now (self .exit) .len) (b ∷ []) ⌝ }
     {
         self.bytes[self.len] = b;
         self.len += 1;
@@ -40,45 +41,60 @@ impl Text {
 
     fn number(&mut self, n: u64)
         requires { ⌜ now self .len + length (decimal n) ≤ 720 ⌝ }
-        ensures { λ _. ⌜ take (now (self .exit) .len) (now (self .exit) .bytes) ≡ take (now (self .entry) .len) (now (self .entry) .bytes) ++ decimal n ⌝ }
+        ensures { λ _. ⌜ Grown (now (self .entry) .bytes) (now (self .entry) .len) (now (self .exit) .bytes) (now (self .exit) .len) (decimal n) ⌝ }
     {
-        if n >= 10 {
+        if n < 10 {
+            self.byte(b'0' + n as u8);
+        } else {
             self.number(n / 10);
+            self.byte(b'0' + (n % 10) as u8);
         }
-        self.byte(b'0' + (n % 10) as u8);
     }
 
     fn amount(&mut self, sum: i64)
         requires { ⌜ now self .len + length (signed sum) ≤ 720 ⌝ }
-        ensures { λ _. ⌜ take (now (self .exit) .len) (now (self .exit) .bytes) ≡ take (now (self .entry) .len) (now (self .entry) .bytes) ++ signed sum ⌝ }
+        ensures { λ _. ⌜ Grown (now (self .entry) .bytes) (now (self .entry) .len) (now (self .exit) .bytes) (now (self .exit) .len) (signed sum) ⌝ }
     {
         if sum < 0 {
             self.byte(b'-');
+            self.number(sum.unsigned_abs());
+        } else {
+            self.number(sum as u64);
         }
-        self.number(sum.unsigned_abs());
     }
 
     // A line `supplier sum`, unless the sum is 0.
     pub(crate) fn supplier(&mut self, supplier: u64, sum: i64)
         requires { ⌜ now self .len + length (supplierLine supplier sum) ≤ 720 ⌝ }
-        ensures { λ _. ⌜ take (now (self .exit) .len) (now (self .exit) .bytes) ≡ take (now (self .entry) .len) (now (self .entry) .bytes) ++ supplierLine supplier sum ⌝ }
+        ensures { λ _. ⌜ Grown (now (self .entry) .bytes) (now (self .entry) .len) (now (self .exit) .bytes) (now (self .exit) .len) (supplierLine supplier sum) ⌝ }
     {
-        if sum != 0 {
-            self.number(supplier);
-            self.byte(b' ');
-            self.amount(sum);
-            self.byte(b'\n');
+        if sum == 0 {
+            return;
         }
+        self.number(supplier);
+        self.byte(b' ');
+        self.amount(sum);
+        self.byte(b'\n');
+    }
+
+    // The word before the zone's sum.
+    fn zone_word(&mut self)
+        requires { ⌜ now self .len + 5 ≤ 720 ⌝ }
+        ensures { λ _. ⌜ Grown (now (self .entry) .bytes) (now (self .entry) .len) (now (self .exit) .bytes) (now (self .exit) .len) (codes "zone ") ⌝ }
+    {
+        self.byte(b'z');
+        self.byte(b'o');
+        self.byte(b'n');
+        self.byte(b'e');
+        self.byte(b' ');
     }
 
     // The line `zone sum`.
     pub(crate) fn zone(&mut self, sum: i64)
         requires { ⌜ now self .len + length (zoneLine sum) ≤ 720 ⌝ }
-        ensures { λ _. ⌜ take (now (self .exit) .len) (now (self .exit) .bytes) ≡ take (now (self .entry) .len) (now (self .entry) .bytes) ++ zoneLine sum ⌝ }
+        ensures { λ _. ⌜ Grown (now (self .entry) .bytes) (now (self .entry) .len) (now (self .exit) .bytes) (now (self .exit) .len) (zoneLine sum) ⌝ }
     {
-        for b in b"zone " {
-            self.byte(*b);
-        }
+        self.zone_word();
         self.amount(sum);
         self.byte(b'\n');
     }
