@@ -4,6 +4,7 @@ use mathlib.Core.List.{List, [], _∷_, _++_, append-assoc}
 use Prim.Native.Nat.{ℕ, _+_, _/_, _%_, _^_, _≤_, _<_}
 use native.Mathlib.Omega.{arith}
 use lib.ListN.{length, getD, take}
+use Rattle.std.specs.Joined.{joined}
 use Rattle.std.specs.Written.{decimal}
 use Rattle.std.proofs.shelf.Decimals.{decimal-digit, decimal-step}
 use Rattle.std.proofs.shelf.Lists.{joined-more, take-more}
@@ -27,10 +28,10 @@ module _ (n : ℕ) (a b d : List ℕ) (last : d ≡ b ++ (48 + n % 10) ∷ []) w
 pub two-digits : (o : List ℕ) (high low b : ℕ) → high ≡ hexDigit (b / 16) → low ≡ hexDigit (b % 16) → o ++ high ∷ low ∷ [] ≡ o ++ hexPair b
 two-digits o high low b h l = ap (λ x. o ++ x ∷ low ∷ []) h ∙ ap (λ x. o ++ hexDigit (b / 16) ∷ x ∷ []) l
 
--- a byte more
-pub more-hex : (a out now bs : List ℕ) (i : ℕ) → i < length bs → out ≡ a ++ hexOf (take i bs) → now ≡ out ++ hexPair (getD bs i 0) → now ≡ a ++ hexOf (take (i + 1) bs)
-more-hex a out now bs i inside before this =
-    this ∙ ap (λ l. l ++ hexPair (getD bs i 0)) before ∙ joined-more hexPair a (take i bs) (getD bs i 0) ∙ ap (λ l. a ++ hexOf l) (sym (take-more bs i 0 inside))
+-- one more of those that are put one after another
+pub more-joined : (f : ℕ → List ℕ) (a out now xs : List ℕ) (i : ℕ) → i < length xs → out ≡ a ++ joined f (take i xs) → now ≡ out ++ f (getD xs i 0) → now ≡ a ++ joined f (take (i + 1) xs)
+more-joined f a out now xs i inside before this =
+    this ∙ ap (λ l. l ++ f (getD xs i 0)) before ∙ joined-more f a (take i xs) (getD xs i 0) ∙ ap (λ l. a ++ joined f l) (sym (take-more xs i 0 inside))
 
 pub some-hex : (bs : List ℕ) → 0 < length bs → 32 ∷ hexOf bs ≡ spacedHex bs
 some-hex [] some = absurd (omega arith)

@@ -3,11 +3,14 @@ use archive::bytes::ByteArchive;
 use archive::bytes::ByteRows;
 use archive::table::TableArchive;
 use archive::table::TableRows;
-use journal::Holding;
+use book::Entry;
+use book::Roster;
+use call::Holding;
 use journal::Journal;
 use journal::Unreadable;
 use journal::UnreadableDisplay;
 use journal::read_journal;
+use run::Days;
 use run::run;
 use std::alloc::AllocError;
 use std::env;
@@ -16,10 +19,13 @@ use std::fs;
 use std::io;
 use std::io::Read;
 
+mod call;
 mod journal;
+mod line;
 mod print;
 mod run;
 mod scan;
+mod slips;
 
 // A listing may be given so many bytes at most; every listing fits them.
 const LISTING: usize = 1_000_000;
@@ -90,9 +96,15 @@ fn read_all(rt: &LibcRuntime, source: &Source) -> io::Result<Vec<u8>> {
     }
 }
 
-fn run_journal(rt: &LibcRuntime, journal: &Journal) -> io::Result<()> {
+// Runs the journal with the archive that it asks for.
+fn run_on(
+    rt: &LibcRuntime,
+    days: &mut Days,
+    roster: &mut Roster,
+    journal: &Journal,
+    listing: &mut [u8],
+) -> io::Result<()> {
     let heap = rt.alloc();
-    let mut listing = vec![in heap; 0u8; LISTING]?;
     let mut out = Vec::new(heap);
     let mut output = rt.stdout();
     match journal.holding {
@@ -100,9 +112,11 @@ fn run_journal(rt: &LibcRuntime, journal: &Journal) -> io::Result<()> {
             let mut memory = vec![in heap; 0u8; size as usize]?;
             let mut archive = ByteArchive::new(&mut memory);
             run(
+                days,
+                roster,
                 &mut archive,
                 &journal.calls,
-                &mut listing,
+                listing,
                 &mut out,
                 &mut output,
             )
@@ -110,14 +124,33 @@ fn run_journal(rt: &LibcRuntime, journal: &Journal) -> io::Result<()> {
         Holding::Table => {
             let mut archive = TableArchive::new();
             run(
+                days,
+                roster,
                 &mut archive,
                 &journal.calls,
-                &mut listing,
+                listing,
                 &mut out,
                 &mut output,
             )
         }
     }
+}
+
+// Slips that are open at the end are closed whatever came, since they must be.
+fn run_journal(rt: &LibcRuntime, journal: &Journal) -> io::Result<()> {
+    let heap = rt.alloc();
+    let nobody = Entry {
+        account: 0,
+        from_day: 0,
+        supplier: 0,
+    };
+    let mut listing = vec![in heap; 0u8; LISTING]?;
+    let mut entries = vec![in heap; nobody; journal.roster as usize]?;
+    let mut days = Days::new(heap)?;
+    let mut roster = Roster::new(&mut entries);
+    let ran = run_on(rt, &mut days, &mut roster, journal, &mut listing);
+    days.close_all();
+    ran
 }
 
 fn program(rt: &LibcRuntime) -> Result<(), Failure> {

@@ -6,8 +6,8 @@ ghost use Rattle.std.specs.Of.Vec.{vec-items};
 ghost use Rattle.std.specs.Vec.{made};
 ghost use Rattle.std.specs.Written.{decimal};
 ghost use Rattle.nookplover.specs.Numerals.{hexDigit, hexOf};
-ghost use Rattle.nookplover.specs.Texts.{spaced, takeInWords, listWords, callWords, refusedWords, rowsWords, endWords};
-use crate::journal::Call;
+ghost use Rattle.nookplover.specs.Texts.{spaced, worded, takeInWords, listWords, callWords, refusedLine, numberLine, rowsLine, endLine};
+use crate::call::Call;
 use refusals::Refusal;
 use std::alloc::AllocError;
 
@@ -48,6 +48,17 @@ fn put_spaced(out: &mut Vec<u8>, n: u64) -> Result<(), AllocError>
     Ok(())
 }
 
+/// Words, and numbers after them.
+pub(crate) fn put_words(out: &mut Vec<u8>, words: &[u8], figures: &[u64]) -> Result<(), AllocError>
+    ensures { λ r. ⌜ made r (λ _. vec-items (now (out .exit)) ≡ vec-items (now (out .entry)) ++ worded (now (words .entry)) (now (figures .entry))) ⌝ }
+{
+    out.extend_from_slice(words)?;
+    for n in figures {
+        put_spaced(out, *n)?;
+    }
+    Ok(())
+}
+
 fn put_take_in(out: &mut Vec<u8>, bytes: &[u8]) -> Result<(), AllocError>
     ensures { λ r. ⌜ made r (λ _. vec-items (now (out .exit)) ≡ vec-items (now (out .entry)) ++ takeInWords (now (bytes .entry))) ⌝ }
 {
@@ -63,13 +74,10 @@ fn put_take_in(out: &mut Vec<u8>, bytes: &[u8]) -> Result<(), AllocError>
 fn put_list(out: &mut Vec<u8>, day: u32, hour: u32, bytes: Option<u32>) -> Result<(), AllocError>
     ensures { λ r. ⌜ made r (λ _. vec-items (now (out .exit)) ≡ vec-items (now (out .entry)) ++ listWords day hour bytes) ⌝ }
 {
-    out.extend_from_slice(b"list")?;
-    put_spaced(out, day as u64)?;
-    put_spaced(out, hour as u64)?;
-    if let Some(size) = bytes {
-        put_spaced(out, size as u64)?;
+    match bytes {
+        Some(size) => put_words(out, b"list", &[day as u64, hour as u64, size as u64]),
+        None => put_words(out, b"list", &[day as u64, hour as u64]),
     }
-    Ok(())
 }
 
 /// The words of a call.
@@ -77,31 +85,48 @@ pub(crate) fn put_call(out: &mut Vec<u8>, call: &Call) -> Result<(), AllocError>
     ensures { λ r. ⌜ made r (λ _. vec-items (now (out .exit)) ≡ vec-items (now (out .entry)) ++ callWords (now (call .entry))) ⌝ }
 {
     match call {
+        Call::Enrol {
+            account,
+            from_day,
+            supplier,
+        } => put_words(
+            out,
+            b"enrol",
+            &[*account as u64, *from_day as u64, *supplier as u64],
+        ),
+        Call::Switch {
+            account,
+            from_day,
+            supplier,
+        } => put_words(
+            out,
+            b"switch",
+            &[*account as u64, *from_day as u64, *supplier as u64],
+        ),
+        Call::Drop { account, from_day } => {
+            put_words(out, b"drop", &[*account as u64, *from_day as u64])
+        }
+        Call::Open { day, hours } => put_words(out, b"open", &[*day as u64, *hours as u64]),
+        Call::Turn { day } => put_words(out, b"turn", &[*day as u64]),
+        Call::Close { day } => put_words(out, b"close", &[*day as u64]),
         Call::TakeIn(bytes) => put_take_in(out, bytes.as_slice()),
         Call::List { day, hour, bytes } => put_list(out, *day, *hour, *bytes),
-        Call::Dump => out.extend_from_slice(b"dump"),
+        Call::Dump => put_words(out, b"dump", &[]),
     }
 }
 
-/// `refused NUMBER LAYER PLACE`.
+/// The line `refused NUMBER LAYER PLACE`.
 pub(crate) fn put_refusal(out: &mut Vec<u8>, refusal: Refusal) -> Result<(), AllocError>
-    ensures { λ r. ⌜ made r (λ _. vec-items (now (out .exit)) ≡ vec-items (now (out .entry)) ++ refusedWords refusal) ⌝ }
+    ensures { λ r. ⌜ made r (λ _. vec-items (now (out .exit)) ≡ vec-items (now (out .entry)) ++ refusedLine refusal) ⌝ }
 {
-    out.extend_from_slice(b"refused")?;
-    put_spaced(out, refusal.cause.number() as u64)?;
-    put_spaced(out, refusal.layer.number() as u64)?;
-    put_spaced(out, refusal.place as u64)?;
+    let number = refusal.cause.number() as u64;
+    let layer = refusal.layer.number() as u64;
+    put_words(out, b"refused", &[number, layer, refusal.place as u64])?;
+    out.push(b'\n')?;
     Ok(())
 }
 
-/// A length.
-pub(crate) fn put_length(out: &mut Vec<u8>, length: usize) -> Result<(), AllocError>
-    ensures { λ r. ⌜ made r (λ _. vec-items (now (out .exit)) ≡ vec-items (now (out .entry)) ++ decimal length) ⌝ }
-{
-    put_number(out, length as u64)
-}
-
-// A count and what is counted.
+// A number, and what follows it.
 fn put_count(out: &mut Vec<u8>, n: usize, unit: &[u8]) -> Result<(), AllocError>
     ensures { λ r. ⌜ made r (λ _. vec-items (now (out .exit)) ≡ vec-items (now (out .entry)) ++ (decimal n ++ now (unit .entry))) ⌝ }
 {
@@ -110,25 +135,32 @@ fn put_count(out: &mut Vec<u8>, n: usize, unit: &[u8]) -> Result<(), AllocError>
     Ok(())
 }
 
-/// `N rows`.
-pub(crate) fn put_rows(out: &mut Vec<u8>, rows: usize) -> Result<(), AllocError>
-    ensures { λ r. ⌜ made r (λ _. vec-items (now (out .exit)) ≡ vec-items (now (out .entry)) ++ rowsWords rows) ⌝ }
+/// The line of a number.
+pub(crate) fn put_answer(out: &mut Vec<u8>, n: usize) -> Result<(), AllocError>
+    ensures { λ r. ⌜ made r (λ _. vec-items (now (out .exit)) ≡ vec-items (now (out .entry)) ++ numberLine n) ⌝ }
 {
-    put_count(out, rows, b" rows")
+    put_count(out, n, b"\n")
 }
 
-/// `end: R rows, F free, E entries`.
+/// The line `N rows`.
+pub(crate) fn put_rows(out: &mut Vec<u8>, rows: usize) -> Result<(), AllocError>
+    ensures { λ r. ⌜ made r (λ _. vec-items (now (out .exit)) ≡ vec-items (now (out .entry)) ++ rowsLine rows) ⌝ }
+{
+    put_count(out, rows, b" rows\n")
+}
+
+/// The line `end: R rows, F free, E entries`.
 pub(crate) fn put_end(
     out: &mut Vec<u8>,
     rows: usize,
     free: usize,
     entries: usize,
 ) -> Result<(), AllocError>
-    ensures { λ r. ⌜ made r (λ _. vec-items (now (out .exit)) ≡ vec-items (now (out .entry)) ++ endWords rows free entries) ⌝ }
+    ensures { λ r. ⌜ made r (λ _. vec-items (now (out .exit)) ≡ vec-items (now (out .entry)) ++ endLine rows free entries) ⌝ }
 {
     out.extend_from_slice(b"end: ")?;
     put_count(out, rows, b" rows, ")?;
     put_count(out, free, b" free, ")?;
-    put_count(out, entries, b" entries")?;
+    put_count(out, entries, b" entries\n")?;
     Ok(())
 }
