@@ -24,8 +24,13 @@ program() {
 passed=0
 failed=0
 say() {
-    echo "$1: $2"
-    if [ "$3" = yes ]; then passed=$((passed + 1)); else failed=$((failed + 1)); fi
+    if [ "$3" = yes ]; then
+        echo "ok refused $1: $2"
+        passed=$((passed + 1))
+    else
+        echo "FAILED refused $1: $2"
+        failed=$((failed + 1))
+    fi
 }
 
 for text in "$here"/*.txt; do
@@ -45,5 +50,4 @@ for text in "$here"/*.txt; do
         fi
     fi
 done
-echo "$passed passed, $failed failed"
 [ "$failed" -eq 0 ] && [ "$passed" -gt 0 ]
