@@ -9,7 +9,7 @@ use lib.Dec.{eqb, leb}
 use lib.ListN.{length, getD, take, drop}
 use Rattle.std.specs.Joined.{joined}
 use Rattle.std.proofs.shelf.Lists.{length-drop, getD-drop, nil-from-length}
-use Rattle.std.proofs.shelf.Tests.{eqb-true}
+use Rattle.std.proofs.shelf.Tests.{eqb-true, leb-true}
 use Rattle.std.specs.declared.result.Result.{Result}
 use Rattle.std.specs.declared.result.Result.the-variants.{Ok, Err}
 use Rattle.refusals.specs.declared.Refusal.{Refusal}
@@ -19,9 +19,10 @@ use Rattle.rows.specs.declared.Fault.{Fault}
 use Rattle.rows.specs.Format.{reading, bytesOf}
 use Rattle.rows.proofs.Found.{writes-back}
 use Rattle.rows.proofs.Fronts.{reading-front}
-use Rattle.archive.specs.Contents.{Contents, refusing}
-use Rattle.archive.specs.Packed.{then-rows, rowsIn}
-use Rattle.archive.specs.Intake.{then-read, allRead, if-room, then-room, takingIn, Taken-again}
+use Rattle.archive.specs.Contents.{Contents, contents, refusing}
+use Rattle.archive.specs.Packed.{then-rows, rowsIn, places, put}
+use Rattle.archive.specs.Intake.{then-read, allRead, if-room, then-room, takingIn, entered, Taken-again}
+use Rattle.archive.proofs.Entering.{entered-is}
 
 first-again : (x : Result Row Fault) (n at : ℕ) (bs : List ℕ) → ((i : ℕ) → getD bs i 0 < 256) → reading bs ≡ x → then-read x at (allRead n (at + 15) (drop 15 bs)) ≡ Ok tt → (allRead n (at + 15) (drop 15 bs) ≡ Ok tt → joined bytesOf (rowsIn n (drop 15 bs)) ≡ drop 15 bs) → joined bytesOf (then-rows x (rowsIn n (drop 15 bs))) ≡ bs
 first-again (Ok r) n at bs small e ok rest = ap (λ t. bytesOf r ++ t) (rest ok) ∙ writes-back bs r small e
@@ -36,21 +37,56 @@ rows-again (suc n) at bs small l e =
     ∙ first-again (reading bs) n at bs small refl (ap (λ x. then-read x at (allRead n (at + 15) (drop 15 bs))) (sym front) ∙ e)
     (rows-again n (at + 15) (drop 15 bs) small′ (omega (arith, length-drop 15 bs, suc-mul n 15)))
 
-room-ok : (b : Bool) (m n : ℕ) → cond b (Ok m) (Err (refusing ArchiveFull 0)) ≡ Ok n → m ≡ n
-room-ok true m n e = cc
+first-length : (x : Result Row Fault) (n at : ℕ) (bs : List ℕ) → then-read x at (allRead n (at + 15) (drop 15 bs)) ≡ Ok tt → (allRead n (at + 15) (drop 15 bs) ≡ Ok tt → length (rowsIn n (drop 15 bs)) ≡ n) → length (then-rows x (rowsIn n (drop 15 bs))) ≡ suc n
+first-length (Ok r) n at bs e rest = ap suc (rest e)
+first-length (Err f) n at bs e rest = let z : _≡_ {A = ℕ} 0 1 = cc in absurd (omega arith)
+
+pub read-length : (n at : ℕ) (bs : List ℕ) → allRead n at bs ≡ Ok tt → length (rowsIn n bs) ≡ n
+read-length zero at bs e = refl
+read-length (suc n) at bs e = first-length (reading (take 15 bs)) n at bs e (read-length n (at + 15) (drop 15 bs))
+
+room-ok : (b : Bool) (m n : ℕ) → cond b (Ok m) (Err (refusing ArchiveFull 0)) ≡ Ok n → (b ≡ true) × (m ≡ n)
+room-ok true m n e = let same : m ≡ n = cc in (refl, same)
 room-ok false m n e = let z : _≡_ {A = ℕ} 0 1 = cc in absurd (omega arith)
 
-read-ok : (x : Result (Unit {0}) Refusal) (m n free : ℕ) → then-room x m free ≡ Ok n → (x ≡ Ok tt) × (m ≡ n)
-read-ok (Ok u) m n free e = (refl, room-ok (leb m free) m n e)
+read-ok : (x : Result (Unit {0}) Refusal) (m n free : ℕ) → then-room x m free ≡ Ok n → (x ≡ Ok tt) × (leb m free ≡ true) × (m ≡ n)
+read-ok (Ok u) m n free e = let p = room-ok (leb m free) m n e in (refl, p .0, p .1)
 read-ok (Err f) m n free e = let z : _≡_ {A = ℕ} 0 1 = cc in absurd (omega arith)
 
 whole-ok : (b : Bool) (x : Result ℕ Refusal) (n : ℕ) → cond b x (Err (refusing PartialRow 0)) ≡ Ok n → (b ≡ true) × (x ≡ Ok n)
 whole-ok true x n e = (refl, e)
 whole-ok false x n e = let z : _≡_ {A = ℕ} 0 1 = cc in absurd (omega arith)
 
-pub taken-again : Taken-again
+-- what is known of bytes that take-in accepts
+pub record Accepted (c : Contents) (bs : List ℕ) (n : ℕ) : Type 0 where
+  pub count : length bs / 15 ≡ n
+  pub size : n * 15 ≡ length bs
+  pub read : allRead n 0 bs ≡ Ok tt
+  pub room : n ≤ c .free
+
+pub accepted : (c : Contents) (bs : List ℕ) (n : ℕ) → takingIn c bs ≡ Ok n → Accepted c bs n
 unfolding takingIn
-taken-again c bs n small e =
+accepted c bs n e =
     let w = whole-ok (eqb (length bs % 15) 0) _ n e in
     let r = read-ok (allRead (length bs / 15) 0 bs) (length bs / 15) n (c .free) (w .1) in
-    ap (λ k. joined bytesOf (rowsIn k bs)) (sym (r .1)) ∙ rows-again (length bs / 15) 0 bs small (omega (arith, eqb-true (length bs % 15) 0 (w .0))) (r .0)
+    record {
+      count = r .2;
+      size = omega (arith, eqb-true (length bs % 15) 0 (w .0), r .2);
+      read = ap (λ k. allRead k 0 bs) (sym (r .2)) ∙ r .0;
+      room = omega (arith, leb-true (length bs / 15) (c .free) (r .1), r .2);
+    }
+
+pub taken-again : Taken-again
+taken-again c bs n small e = let p = accepted c bs n e in rows-again n 0 bs small (p .size) (p .read)
+
+-- bytes taken into an empty byte archive stand at the beginning of its memory
+pub taken-to-front : (m bs : List ℕ) (n : ℕ) → ((i : ℕ) → getD bs i 0 < 256) → takingIn (contents [] (places (length m))) bs ≡ Ok n → entered put m 0 (rowsIn (length bs / 15) bs) ≡ bs ++ drop (length bs) m
+taken-to-front m bs n small e =
+    let p = accepted (contents [] (places (length m))) bs n e in
+    let l = read-length n 0 bs (p .read) in
+    let past : (0 + length (rowsIn n bs)) * 15 ≡ length bs = omega (arith, l, p .size) in
+    let room : n ≤ places (length m) = p .room in
+    ap (λ k. entered put m 0 (rowsIn k bs)) (p .count)
+    ∙ entered-is m 0 (rowsIn n bs) (omega arith)
+    ∙ ap (λ t. t ++ drop ((0 + length (rowsIn n bs)) * 15) m) (rows-again n 0 bs small (p .size) (p .read))
+    ∙ ap (λ k. bs ++ drop k m) past

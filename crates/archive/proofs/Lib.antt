@@ -12,3 +12,4 @@ pub mod Reading
 pub mod Taking
 pub mod Answered
 pub mod Again
+pub mod Entering

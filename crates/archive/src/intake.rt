@@ -48,6 +48,7 @@ fn append_rows<A: Archive>(archive: &mut A, bytes: &[u8])
     requires room { ⌜ length (now bytes) / 15 ≤ meaning (now archive) .free ⌝ }
     ensures after { λ _. ⌜ meaning (now (archive .exit)) ≡ contents (meaning (now (archive .entry)) .rows ++ rowsIn (length (now (bytes .entry)) / 15) (now (bytes .entry))) (meaning (now (archive .entry)) .free - length (now (bytes .entry)) / 15) ⌝ }
     ensures memory { λ _. ⌜ memory (now (archive .exit)) ≡ entered (A·Archive .stamped) (memory (now (archive .entry))) (length (meaning (now (archive .entry)) .rows)) (rowsIn (length (now (bytes .entry)) / 15) (now (bytes .entry))) ⌝ }
+    ensures lent { λ _. ⌜ lent (now (archive .exit)) ≡ lent (now (archive .entry)) ⌝ }
 {
     let mut rest = bytes;
     for _i in 0..bytes.len() / 15 {
@@ -65,6 +66,7 @@ pub fn take_in<A: Archive>(archive: &mut A, bytes: &[u8]) -> Result<usize, Refus
     ensures answer { λ r. ⌜ r ≡ takingIn (meaning (now (archive .entry))) (now (bytes .entry)) ⌝ }
     ensures after { λ _. ⌜ meaning (now (archive .exit)) ≡ takenIn (meaning (now (archive .entry))) (now (bytes .entry)) ⌝ }
     ensures memory { λ r. ⌜ memory (now (archive .exit)) ≡ kept r (entered (A·Archive .stamped) (memory (now (archive .entry))) (length (meaning (now (archive .entry)) .rows)) (rowsIn (length (now (bytes .entry)) / 15) (now (bytes .entry)))) (memory (now (archive .entry))) ⌝ }
+    ensures lent { λ _. ⌜ lent (now (archive .exit)) ≡ lent (now (archive .entry)) ⌝ }
     ensures again { λ _. ⌜ Taken-again ⌝ }
 {
     if bytes.len() % 15 != 0 {

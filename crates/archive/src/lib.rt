@@ -19,12 +19,14 @@ pub mod table;
 
 /// An archive by its meaning: the rows in the order in which they came, and how many more it has place for.
 ///
-/// `memory` is what the archive occupies of the user's memory (nothing, where it has its own), and `stamped` is
-/// that memory once a row is put at a position: so that a call can say all that it writes.
+/// `memory` is the user's memory that the archive lies in (nothing, where it has its own), `lent` tells by which loan it
+/// has it, and `stamped` is that memory once a row is put at a position: so that a call can say all that it writes.
 pub trait Archive {
     ghost meaning: { Self → Contents };
 
     ghost memory: { Self → List ℕ };
+
+    ghost lent: { Self → ℕ };
 
     ghost stamped: { List ℕ → ℕ → RowT → List ℕ };
 
@@ -32,7 +34,8 @@ pub trait Archive {
     fn append(&mut self, row: Row) -> Result<(), Refusal>
         ensures answer { λ r. ⌜ r ≡ appending (meaning (now (self .entry))) row ⌝ }
         ensures after { λ _. ⌜ meaning (now (self .exit)) ≡ appended (meaning (now (self .entry))) row ⌝ }
-        ensures memory { λ r. ⌜ memory (now (self .exit)) ≡ kept r (stamped (memory (now (self .entry))) (length (meaning (now (self .entry)) .rows)) row) (memory (now (self .entry))) ⌝ };
+        ensures memory { λ r. ⌜ memory (now (self .exit)) ≡ kept r (stamped (memory (now (self .entry))) (length (meaning (now (self .entry)) .rows)) row) (memory (now (self .entry))) ⌝ }
+        ensures lent { λ _. ⌜ lent (now (self .exit)) ≡ lent (now (self .entry)) ⌝ };
 
     /// How many rows there are. Each is lawful, and with the free places they are at most 1,000,000.
     fn count(&self) -> usize

@@ -1,6 +1,7 @@
 ghost use mathlib.Core.Path.{_≡_};
 ghost use Prim.Native.Nat.{ℕ, _≤_};
 ghost use lib.ListN.{length, take};
+ghost use Rattle.std.specs.Vec.{made};
 ghost use Rattle.archive.specs.Contents.{kept};
 ghost use Rattle.archive.specs.Sums.{Small};
 ghost use Rattle.archive.specs.Listing.{listable, listedKind, fitting, overwritten, listing, listed, textOf};
@@ -61,9 +62,10 @@ fn write(text: &[u8], out: &mut [u8]) -> Result<usize, Refusal>
 
 /// Writes the listing of a day and hour (0 lists peaks) into the memory, and answers its length: a line
 /// `supplier sum` for each supplier whose rows do not add up to 0, and then `zone sum`. 10 for a day or hour out
-/// of range, then 33 where the text does not fit.
+/// of range, then 33 where the text does not fit. No text is longer than 720 bytes.
 pub fn list<A: Archive>(archive: &A, day: u32, hour: u32, out: &mut [u8]) -> Result<usize, Refusal>
     ensures answer { λ r. ⌜ r ≡ listing day hour (meaning (now (archive .entry)) .rows) (length (now (out .entry))) ⌝ }
+    ensures short { λ r. ⌜ made r (λ n. n ≤ 720) ⌝ }
     ensures written { λ _. ⌜ now (out .exit) ≡ listed day hour (meaning (now (archive .entry)) .rows) (now (out .entry)) ⌝ }
 {
     if !is_listable(day, hour) {

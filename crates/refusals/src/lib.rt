@@ -21,8 +21,16 @@ pub enum Cause {
     NotAfterLastOpened = 16,
     /// A day to be opened that is not after the last opened one.
     DayNotAfter = 17,
+    /// A list shorter than the sheet.
+    ListTooShort = 20,
     /// A billed usage over 100 times the profile usage.
     UsageTooHigh = 22,
+    /// Loads or weights that sum above 3,000,000,000.
+    LoadsTooHigh = 23,
+    /// A total other than 0 for a group of load 0.
+    UnloadedGroup = 24,
+    /// A group total below 0.
+    NegativeTotal = 25,
     /// More rows than free places in the archive.
     ArchiveFull = 27,
     /// Bytes that are not whole rows.

@@ -2,7 +2,7 @@ ghost use mathlib.Core.Path.{_≡_};
 ghost use mathlib.Core.List.{List, []};
 ghost use Prim.Native.Nat.{ℕ, _+_, _-_, _*_, _≤_};
 ghost use lib.ListN.{length};
-ghost use denote.Ref.{now};
+ghost use denote.Ref.{now, name};
 ghost use Rattle.archive.specs.Contents.{Contents, contents};
 ghost use Rattle.archive.specs.Packed.{rowsIn, places, put};
 ghost use Rattle.archive.specs.Held.{byteContents};
@@ -18,6 +18,7 @@ impl<'a> ByteArchive<'a> {
     pub fn new(memory: &'a mut [u8]) -> Self
         ensures meaning { λ r. ⌜ byteContents r ≡ contents [] (places (length (now (memory .entry)))) ⌝ }
         ensures memory { λ r. ⌜ now (r .memory) ≡ now (memory .entry) ⌝ }
+        ensures lent { λ r. ⌜ name (r .memory) ≡ name (memory .entry) ⌝ }
     {
         ByteArchive { memory, used: 0 }
     }
@@ -34,6 +35,8 @@ pub impl<'a> Archive for ByteArchive<'a> as ByteRows {
     ghost meaning = { byteContents };
 
     ghost memory = { λ s. now (s .memory) };
+
+    ghost lent = { λ s. name (s .memory) };
 
     ghost stamped = { put };
 

@@ -37,6 +37,8 @@ pub impl Archive for TableArchive as TableRows {
 
     ghost memory = { λ _. [] };
 
+    ghost lent = { λ _. 0 };
+
     ghost stamped = { λ memory _ _. memory };
 
     fn append(&mut self, row: Row) -> Result<(), Refusal> {

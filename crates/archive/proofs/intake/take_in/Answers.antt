@@ -10,7 +10,7 @@ pub returns-then-bytes-ne0 : need.returns-then-bytes-ne0
 returns-then-bytes-ne0 g c =
     let before = g .A·Archive .meaning (c .args .archive .now) in
     let a = not-whole before (c .args .bytes .now) (c .if-bytes-ne0 .taken) in
-    record { answer = a; after = taken-by before (c .args .bytes .now) _ a; memory = refl; again = taken-again }
+    record { answer = a; after = taken-by before (c .args .bytes .now) _ a; memory = refl; lent = refl; again = taken-again }
 
 pub returns-in-Break-check-rows : need.returns-in-Break-check-rows
 returns-in-Break-check-rows g c =
@@ -18,16 +18,16 @@ returns-in-Break-check-rows g c =
     let p = err-from-errBy (c .from-residual .result) (c .from-residual .ensures .1) in
     let is = p .1 ∙ ap Err (p .2) in
     let a = unreadable before (c .args .bytes .now) (c .if-bytes-ne0 .left) _ (c .in-Break-check-rows .ensures tt) in
-    record { answer = is ∙ a; after = taken-by before (c .args .bytes .now) _ a; memory = kept-old _ _ _ _ is; again = taken-again }
+    record { answer = is ∙ a; after = taken-by before (c .args .bytes .now) _ a; memory = kept-old _ _ _ _ is; lent = refl; again = taken-again }
 
 pub returns-then-rows-free-places : need.returns-then-rows-free-places
 returns-then-rows-free-places g c =
     let before = g .A·Archive .meaning (c .args .archive .now) in
     let a = no-room before (c .args .bytes .now) (c .if-bytes-ne0 .left) (c .in-Continue-check-rows .ensures tt) (omega (arith, c .free-places .ensures)) in
-    record { answer = a; after = taken-by before (c .args .bytes .now) _ a; memory = refl; again = taken-again }
+    record { answer = a; after = taken-by before (c .args .bytes .now) _ a; memory = refl; lent = refl; again = taken-again }
 
 pub returns : need.returns
 returns g c =
     let before = g .A·Archive .meaning (c .args .archive .now) in
     let a = all-read before (c .args .bytes .now) (c .if-bytes-ne0 .left) (c .in-Continue-check-rows .ensures tt) (omega (arith, c .free-places .ensures)) in
-    record { answer = a; after = c .append-rows .ensures .after ∙ taken-by before (c .args .bytes .now) _ a; memory = c .append-rows .ensures .memory; again = taken-again }
+    record { answer = a; after = c .append-rows .ensures .after ∙ taken-by before (c .args .bytes .now) _ a; memory = c .append-rows .ensures .memory; lent = c .append-rows .ensures .lent; again = taken-again }

@@ -13,7 +13,7 @@ use Rattle.archive.proofs.Putting.{written-none, room-for, length-put, put-ste
 use Rattle.archive.proofs.bytes.meaning.ByteRows.append.Needs as need
 
 pub loop-i-holds : need.loop-i-holds
-loop-i-holds c = (refl, written-none (c .args .self .now .memory .now) (c .args .self .now .used * 15) (c .to-bytes-bytes .result))
+loop-i-holds c = (refl, written-none (c .args .self .now .memory .now) (c .args .self .now .used * 15) (c .to-bytes-bytes .result), refl)
 
 pub ghost-self : need.ghost-self
 ghost-self c =
@@ -26,7 +26,7 @@ pub loop-i-again : need.loop-i-again
 loop-i-again c =
     let a = c .args .self .now in
     let room = room-for (a .memory .now) (a .used) (omega arith) in
-    (c .loop-i .inv .0, put-step (a .memory .now) (c .to-bytes-bytes .result) (a .used) (c .args .row) (a .whole) (c .to-bytes-bytes .ensures .bytes) (c .loop-i .self .memory .now) (c .loop-i .i) (c .loop-i-test .taken) room (c .loop-i .inv .1))
+    (c .loop-i .inv .0, put-step (a .memory .now) (c .to-bytes-bytes .result) (a .used) (c .args .row) (a .whole) (c .to-bytes-bytes .ensures .bytes) (c .loop-i .self .memory .now) (c .loop-i .i) (c .loop-i-test .taken) room (c .loop-i .inv .1), c .loop-i .inv .2)
 
 pub ghost-self-2 : need.ghost-self-2
 ghost-self-2 c =
@@ -50,4 +50,5 @@ returns c =
       answer = sym (accepting (byteContents a) (c .args .row) l some);
       after = appended-is (byteContents a) (c .args .row) _ _ l some (ap (λ u. rowsIn (u + 1) (c .loop-i .self .memory .now)) (c .loop-i .inv .0) ∙ ap (rowsIn (a .used + 1)) m ∙ e) (omega (arith, n, c .loop-i .inv .0));
       memory = m ∙ ap (λ u. put (a .memory .now) u (c .args .row)) (sym (a .whole));
+      lent = c .loop-i .inv .2;
     }

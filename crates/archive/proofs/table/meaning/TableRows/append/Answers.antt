@@ -24,4 +24,4 @@ returns c =
     let l : lawful (c .args .row) ≡ true = sym (c .is-lawful .ensures) ∙ c .if-not-is-lawful .left in
     let b : c .args .self .now .used < length (c .args .self .now .records) = omega arith in
     let before = tableContents (c .args .self .now) in
-    record { answer = sym (accepting before (c .args .row) l (omega arith)); after = appended-is before (c .args .row) _ _ l (omega arith) (take-more-set (c .args .self .now .records) (c .args .self .now .used) (c .args .row) b) (omega arith); memory = refl }
+    record { answer = sym (accepting before (c .args .row) l (omega arith)); after = appended-is before (c .args .row) _ _ l (omega arith) (take-more-set (c .args .self .now .records) (c .args .self .now .used) (c .args .row) b) (omega arith); memory = refl; lent = refl }
