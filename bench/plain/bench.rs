@@ -118,22 +118,32 @@ fn plain(day: u32, hour: u32, rows: &[u8], memory: &mut [u8], out: &mut [u8]) ->
     }
 }
 
+// Splitmix: numbers that look random, the same at every run.
+fn draw(seed: &mut u64, below: u64) -> u64 {
+    *seed = seed.wrapping_add(0x9E37_79B9_7F4A_7C15);
+    let mut z = *seed;
+    z = (z ^ (z >> 30)).wrapping_mul(0xBF58_476D_1CE4_E5B9);
+    z = (z ^ (z >> 27)).wrapping_mul(0x94D0_49BB_1331_11EB);
+    (z ^ (z >> 31)) % below
+}
+
 // Rows of ten days, of all hours and suppliers, both stages; every eleventh is a peak row.
 fn rows(count: usize) -> Vec<u8> {
     let mut bytes = Vec::with_capacity(count * ROW);
-    let mut seed = 0x9E37_79B9_7F4A_7C15u64;
+    let mut seed = 1;
     for i in 0..count {
-        seed = seed.wrapping_mul(6_364_136_223_846_793_005).wrapping_add(1_442_695_040_888_963_407);
-        let draw = seed >> 16;
         let peak = i % 11 == 0;
-        let day = 9000 + (draw % 10) as u16;
-        let amount = (draw >> 8) as i64 % 3_000_000_000 - 1_500_000_000;
+        let day = 9000 + draw(&mut seed, 10) as u16;
+        let hour = 1 + draw(&mut seed, 25) as u8;
+        let stage = 1 + draw(&mut seed, 2) as u8;
+        let supplier = 1 + draw(&mut seed, 32) as u8;
+        let amount = 1 + draw(&mut seed, 3_000_000_000) as i64;
+        let signed = if draw(&mut seed, 4) == 0 { -amount } else { amount };
         bytes.extend_from_slice(if peak { b"PL" } else { b"EH" });
         bytes.extend_from_slice(&day.to_be_bytes());
-        bytes.push(if peak { 0 } else { 1 + ((draw >> 4) % 25) as u8 });
-        bytes.push(if peak { 0 } else { 1 + ((draw >> 9) % 2) as u8 });
-        bytes.push(1 + ((draw >> 13) % 32) as u8);
-        bytes.extend_from_slice(&(if amount == 0 { 1 } else { amount }).to_be_bytes());
+        bytes.extend_from_slice(&if peak { [0, 0] } else { [hour, stage] });
+        bytes.push(supplier);
+        bytes.extend_from_slice(&signed.to_be_bytes());
     }
     bytes
 }
