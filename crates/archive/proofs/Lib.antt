@@ -13,3 +13,7 @@ pub mod Taking
 pub mod Answered
 pub mod Again
 pub mod Entering
+pub mod Dues
+pub mod Bringing
+pub mod Adding
+pub mod Adjusted

@@ -3,4 +3,5 @@ pub mod Packed
 pub mod Held
 pub mod Sums
 pub mod Intake
+pub mod Adjusting
 pub mod Listing

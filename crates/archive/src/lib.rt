@@ -11,6 +11,7 @@ ghost use Rattle.archive.specs.Contents.{Contents, appending, appended, kept};
 use refusals::Refusal;
 use rows::Row;
 
+pub mod adjusting;
 pub mod bytes;
 pub mod intake;
 pub mod listing;

@@ -1,7 +1,7 @@
 -- The hours that are not settled: what is left of all marks once those of the settled hours are taken away.
 use mathlib.Core.Path.{_≡_, refl, sym, ap, _∙_}
 use mathlib.Core.Logic.{⊎-elim}
-use mathlib.Core.Bool.{cond, true, false, _||_}
+use mathlib.Core.Bool.{cond, _||_}
 use Prim.Native.Nat.{ℕ, zero, suc, _+_, _-_, _*_, _/_, _%_, _^_, _<_, _≤_}
 use native.Mathlib.Omega.{arith}
 use lib.Bits.{bitOr, or-zero-r}
@@ -9,7 +9,7 @@ use lib.Dec.{eqb}
 use Rattle.std.proofs.shelf.Bits.{mod-pow-add, one-shl, or-lt, pow-below, pow-pos, pow-add, shl-shr, or-shr, or-mod}
 use Rattle.std.proofs.shelf.Tests.{cond-both, eqb-true, eqb-false, eq-eqb, ne-eqb, cases-eq, cases-order}
 use native.Mathlib.Nat.{mod-eq-of-lt, pow-suc, div-self, div-eq-of-lt}
-use Rattle.book.specs.Slips.{markOf, isSettled, unsettled, Marks-one}
+use Rattle.book.specs.Slips.{markOf, unsettled, Marks-one}
 
 -- one hour more: its mark stands in one of the two numbers
 either-mark : (bit p u r : ℕ) → bit < 2 → u + r + 1 ≡ p → (u + cond (eqb bit 1) 0 p) + (bit * p + r) + 1 ≡ p * 2

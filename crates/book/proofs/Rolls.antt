@@ -1,12 +1,12 @@
 -- A roster's entries and the memory behind them, as one list that is cut at the count.
 use mathlib.Core.Path.{_≡_, refl, sym, ap, _∙_}
-use mathlib.Core.Bool.{Bool, true, false, _&&_}
+use mathlib.Core.Bool.{true, _&&_}
 use mathlib.Core.List.{List, [], _∷_, _++_}
-use Prim.Native.Nat.{ℕ, zero, suc, _+_, _-_, _<_, _≤_}
+use Prim.Native.Nat.{ℕ, suc, _+_, _-_, _<_, _≤_}
 use native.Mathlib.Omega.{arith}
 use lib.Dec.{ltb}
 use lib.ListN.{length, take, drop, set}
-use Rattle.std.proofs.shelf.Lists.{length-take-le, length-drop, length-append, take-more-set, drop-set-lt, drop-drop, append-assoc, append-nil}
+use Rattle.std.proofs.shelf.Lists.{length-take-le, length-drop, take-more-set, drop-set-lt, drop-drop, append-assoc, append-nil}
 use Rattle.std.proofs.shelf.Tests.{and-parts, ltb-true}
 use Rattle.std.proofs.shelf.Ways.{tells}
 use Rattle.std.specs.declared.result.Result.{Result}

@@ -1,7 +1,7 @@
 -- The table of suppliers after one entry more.
-use mathlib.Core.Path.{_≡_, refl, sym, ap, subst, _∙_}
+use mathlib.Core.Path.{_≡_, refl, sym, ap, _∙_}
 use mathlib.Core.Logic.{_≢_, ⊎-elim}
-use mathlib.Core.Bool.{Bool, true, false, cond, _&&_}
+use mathlib.Core.Bool.{Bool, true, false, cond}
 use mathlib.Core.List.{List, [], _∷_, _++_, map}
 use Prim.Native.Nat.{ℕ, zero, suc, _+_, _<_, _≤_}
 use native.Mathlib.Omega.{arith}
@@ -10,7 +10,7 @@ use lib.ListN.{length, getD, take, drop, set, replicate}
 use Rattle.std.proofs.shelf.Lists.{length-map, length-take, length-take-le, getD-take, take-at, drop-at, set-append-left, set-at, drop-more, replicate-more, length-replicate, append-assoc, take-append-drop}
 use Rattle.std.proofs.shelf.Tests.{and-from, and-left, and-right, cond-true, cond-false, eq-eqb, ne-eqb, le-leb, lt-leb, cases-order}
 use Rattle.std.specs.declared.option.Option.{Option}
-use Rattle.std.specs.declared.option.Option.the-variants.{Some, None}
+use Rattle.std.specs.declared.option.Option.the-variants.{Some}
 use Rattle.book.specs.declared.roster.Entry.{Entry}
 use Rattle.book.specs.Rising.{Rising}
 use Rattle.book.specs.Entries.{concerns, lastEntry, supplierIn, supplierOn}

@@ -1,7 +1,7 @@
 -- The number of each cause of refusal and of each layer.
 use Prim.Native.Nat.{ℕ}
 use Rattle.refusals.specs.declared.Cause.{Cause}
-use Rattle.refusals.specs.declared.Cause.the-variants.{OutOfRange, RosterFull, AlreadyServed, NotServed, SameSupplier, NotAfterLastEntry, NotAfterLastOpened, DayNotAfter, ListTooShort, UsageTooHigh, LoadsTooHigh, UnloadedGroup, NegativeTotal, ArchiveFull, PartialRow, UnknownMark, UnlawfulRow, TextTooLong}
+use Rattle.refusals.specs.declared.Cause.the-variants.{OutOfRange, RosterFull, AlreadyServed, NotServed, SameSupplier, NotAfterLastEntry, NotAfterLastOpened, DayNotAfter, ListTooShort, AccountNotAbove, UsageTooHigh, LoadsTooHigh, UnloadedGroup, NegativeTotal, AmountTooLarge, ArchiveFull, PartialRow, UnknownMark, UnlawfulRow, TextTooLong}
 use Rattle.refusals.specs.declared.Layer.{Layer}
 use Rattle.refusals.specs.declared.Layer.the-variants.{Roster, Sheet, Sharing, Archive}
 use Rattle.refusals.specs.declared.Refusal.{Refusal}
@@ -16,10 +16,12 @@ numberOf NotAfterLastEntry = 15
 numberOf NotAfterLastOpened = 16
 numberOf DayNotAfter = 17
 numberOf ListTooShort = 20
+numberOf AccountNotAbove = 21
 numberOf UsageTooHigh = 22
 numberOf LoadsTooHigh = 23
 numberOf UnloadedGroup = 24
 numberOf NegativeTotal = 25
+numberOf AmountTooLarge = 26
 numberOf ArchiveFull = 27
 numberOf PartialRow = 30
 numberOf UnknownMark = 31

@@ -23,6 +23,8 @@ pub enum Cause {
     DayNotAfter = 17,
     /// A list shorter than the sheet.
     ListTooShort = 20,
+    /// A line whose account is not above that of the line before.
+    AccountNotAbove = 21,
     /// A billed usage over 100 times the profile usage.
     UsageTooHigh = 22,
     /// Loads or weights that sum above 3,000,000,000.
@@ -31,6 +33,8 @@ pub enum Cause {
     UnloadedGroup = 24,
     /// A group total below 0.
     NegativeTotal = 25,
+    /// An amount outside a row's range.
+    AmountTooLarge = 26,
     /// More rows than free places in the archive.
     ArchiveFull = 27,
     /// Bytes that are not whole rows.

@@ -12,6 +12,10 @@ use Rattle.rules.specs.Loads.{intervalLoad, profiledLoad}
 abbrev pub energy : ℕ → Energy
 energy n = record { 0 = n }
 
+abbrev pub accountOf : Line → ℕ
+accountOf (Interval account loss reading) = account
+accountOf (Profiled account loss profile billed usage) = account
+
 abbrev pub inRange : Line → Bool
 inRange (Interval account loss reading) = isAccount account && (isLossFactor loss && isReading reading)
 inRange (Profiled account loss profile billed usage) =

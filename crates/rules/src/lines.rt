@@ -1,7 +1,7 @@
 //! The lines of a settle sheet.
 ghost use mathlib.Core.Path.{_≡_};
 ghost use mathlib.Core.Bool.{true};
-ghost use Rattle.rules.specs.Lines.{inRange, usageInRange, causeOf, figuredLoad, loadOf, intervalWeight, profiledWeight, energy};
+ghost use Rattle.rules.specs.Lines.{accountOf, inRange, usageInRange, causeOf, figuredLoad, loadOf, intervalWeight, profiledWeight, energy};
 use crate::loads::interval_load;
 use crate::loads::profiled_load;
 use crate::ranges::is_account;
@@ -18,11 +18,13 @@ use refusals::Cause;
 /// A line of a settle sheet: an account's loss factor, and the figures of its hour.
 #[derive(Clone, Copy)]
 pub enum Line {
+    /// A line of an account that is read every hour. The reading may be missing.
     Interval {
         account: u32,
         loss_factor: u32,
         reading: u32,
     },
+    /// A line of an account whose hours are estimated from a profile.
     Profiled {
         account: u32,
         loss_factor: u32,
@@ -33,6 +35,16 @@ pub enum Line {
 }
 
 impl Line {
+    /// The account whose line it is.
+    pub fn account(&self) -> u32
+        ensures { λ r. ⌜ r ≡ accountOf (now (self .entry)) ⌝ }
+    {
+        match *self {
+            Line::Interval { account, .. } => account,
+            Line::Profiled { account, .. } => account,
+        }
+    }
+
     fn in_range(&self) -> bool
         ensures { λ r. ⌜ r ≡ inRange (now (self .entry)) ⌝ }
     {

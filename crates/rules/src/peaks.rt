@@ -28,6 +28,7 @@ pub struct PeakLine {
     pub loss_factor: u32,
     /// 1: readings; 2: profile loads; 3: coincidence factors.
     pub kind: u32,
+    /// Readings, profile loads or coincidence factors, by kind.
     pub figures: [u32; 5],
     /// The billed usage in kind 2, the highest demand in kind 3, else 0.
     pub usage: u32,

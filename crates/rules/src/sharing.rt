@@ -14,6 +14,7 @@ use refusals::Refusal;
 
 /// A line that has a weight in one of two groups, and a unit in which its share is counted.
 pub trait Weighted {
+    /// What a share is counted in.
     type Unit: Copy;
 
     ghost inFirst: { Self → ℕ };
@@ -26,6 +27,7 @@ pub trait Weighted {
     fn weights(&self) -> (u64, u64)
         ensures { λ r. ⌜ r ≡ (inFirst (now (self .entry)), inSecond (now (self .entry))) ⌝ };
 
+    /// So many units.
     fn amount(n: u64) -> Self::Unit
         ensures { λ r. ⌜ r ≡ amounts n ⌝ };
 }

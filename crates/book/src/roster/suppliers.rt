@@ -1,7 +1,7 @@
 //! The suppliers of a whole sheet in one pass over the entries.
 ghost use mathlib.Core.Path.{_≡_};
 ghost use mathlib.Core.List.{map, _++_};
-ghost use Prim.Native.Nat.{ℕ, _+_, _<_, _≤_};
+ghost use Prim.Native.Nat.{_+_, _<_, _≤_};
 ghost use lib.ListN.{length, take, drop, replicate};
 ghost use Rattle.book.specs.Entries.{rollOf};
 ghost use Rattle.book.specs.Rising.{Rising};
@@ -50,5 +50,51 @@ impl<'a> Roster<'a> {
                 }
             }
         }
+    }
+}
+
+#[cfg(test)]
+mod tests {
+    use crate::opening::Book;
+    use crate::roster::Entry;
+    use crate::roster::Roster;
+    use crate::sheet::Accounted;
+    use std::test::*;
+
+    #[derive(Drop)]
+    struct Line(u32);
+
+    impl Accounted for Line as LineAccounted {
+        ghost accountOf = { λ line. line .0 };
+
+        fn account(&self) -> u32 {
+            self.0
+        }
+    }
+
+    #[test]
+    fn suppliers_of_a_sheet() -> Result<(), Fail> {
+        let blank = Entry {
+            account: 0,
+            from_day: 0,
+            supplier: 0,
+        };
+        let mut memory = [blank; 5];
+        let mut roster = Roster::new(&mut memory);
+        let book = Book::new();
+        check(roster.enrol(&book, 4, 10, 7).is_ok())?;
+        check(roster.enrol(&book, 2, 5, 3).is_ok())?;
+        check(roster.switch(&book, 2, 8, 9).is_ok())?;
+        check(roster.drop(&book, 4, 11).is_ok())?;
+        check(roster.switch(&book, 2, 20, 32).is_ok())?;
+        check(roster.enrol(&book, 3, 1, 1).is_err())?;
+        let lines = [Line(2), Line(3), Line(4), Line(4), Line(5)];
+        let mut table = [255; 5];
+        check_eq(roster.suppliers(&lines, 10, &mut table), 3)?;
+        check(table[0] == 9 && table[1] == 0 && table[2] == 7 && table[3] == 255)?;
+        check_eq(roster.suppliers(&lines, 20, &mut table), 3)?;
+        check(table[0] == 32 && table[2] == 0 && table[4] == 255)?;
+        check_eq(roster.supplier_on(2, 7), Some(3))?;
+        check_eq(roster.supplier_on(2, 4), None)
     }
 }

@@ -1,6 +1,6 @@
 //! What a slip says, and how it goes from stage to stage.
 ghost use mathlib.Core.Path.{_≡_};
-ghost use Prim.Native.Nat.{ℕ, _+_, _-_, _^_, _<_, _≤_};
+ghost use Prim.Native.Nat.{_-_, _<_, _≤_};
 ghost use Rattle.book.specs.Slips.{slipOf, turned, closing, marked, Marks-one};
 use super::Slip;
 

@@ -1,6 +1,4 @@
 use native.Mathlib.Omega.{arith}
-use mathlib.Core.List.{map}
-use Rattle.book.specs.Sheets.{risingFront}
 use Rattle.book.proofs.Fronts.{front-more, front-ends, front-whole}
 use Rattle.book.proofs.sheet.rising_front.Needs as need
 

@@ -1,6 +1,4 @@
 use native.Mathlib.Omega.{arith}
-use Prim.Native.Nat.{_+_, _<_, _≤_}
-use lib.ListN.{length, set}
 use Rattle.std.proofs.shelf.Lists.{length-set}
 use Rattle.book.proofs.Rolls.{place-parts, added-at}
 use Rattle.book.proofs.roster.Roster.add.Needs as need

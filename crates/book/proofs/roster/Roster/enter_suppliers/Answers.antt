@@ -1,8 +1,7 @@
 use native.Mathlib.Omega.{arith}
-use mathlib.Core.Path.{_≡_, sym, ap, _∙_}
-use mathlib.Core.List.{map, _++_}
-use Prim.Native.Nat.{ℕ, _+_, _<_, _≤_}
-use lib.ListN.{length, getD, take, drop}
+use mathlib.Core.List.{map}
+use Prim.Native.Nat.{_<_, _≤_}
+use lib.ListN.{length, drop}
 use Rattle.std.proofs.shelf.Lists.{length-map}
 use Rattle.book.specs.Entries.{entry}
 use Rattle.book.proofs.Tables.{table-begins, place-within, written-at, passed-absent, passed-late}

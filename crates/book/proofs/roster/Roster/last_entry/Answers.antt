@@ -1,5 +1,5 @@
 use native.Mathlib.Omega.{arith}
-use mathlib.Core.Path.{_≡_, sym, _∙_}
+use mathlib.Core.Path.{sym, _∙_}
 use Rattle.book.specs.Entries.{entry}
 use Rattle.book.proofs.Latest.{entry-found, entry-passed}
 use Rattle.book.proofs.roster.Roster.last_entry.Needs as need

@@ -1,7 +1,7 @@
 use native.Mathlib.Omega.{arith}
 use mathlib.Core.Path.{_≡_, ap, _∙_}
 use mathlib.Core.List.{map}
-use Prim.Native.Nat.{ℕ, _≤_, min}
+use Prim.Native.Nat.{_≤_, min}
 use lib.ListN.{length, take, drop}
 use Rattle.std.proofs.shelf.Lists.{length-map}
 use Rattle.std.specs.declared.option.Option.the-variants.{None}
