@@ -12,7 +12,7 @@ use Rattle.book.specs.declared.roster.Entry.{Entry}
 use Rattle.std.specs.declared.option.Option.{Option}
 use Rattle.book.specs.Ranges.{areTerms, unless}
 use Rattle.book.specs.Entries.{Roll, added, supplierIn}
-use Rattle.book.specs.Calls.{hasPlace, lastOf, isServed, timing, switching, ifOk}
+use Rattle.book.specs.Calls.{admitting, hasPlace, lastOf, isServed, timing, switching, ifOk}
 
 passes : (test : Bool) (cause : Cause) (next : Result (Unit {0}) Refusal) → test ≡ true → unless test cause next ≡ next
 passes test cause next it = cond-true _ _ _ it
@@ -33,6 +33,15 @@ switch-passes opened roll account from supplier last r ranged place is served ot
     ∙ passes (hasPlace roll) RosterFull checks place
     ∙ passes (isServed account roll) NotServed (unless (not (eqb s supplier)) SameSupplier end) serves
     ∙ passes (not (eqb s supplier)) SameSupplier end differs)
+
+-- the same of enrol and drop, which check one thing more
+pub one-passes : (roll : Roll) (ranged test : Bool) (cause : Cause) (end r : Result (Unit {0}) Refusal) → ranged ≡ true → hasPlace roll ≡ true → test ≡ true → r ≡ end
+    → r ≡ admitting roll ranged (unless test cause end)
+one-passes roll ranged test cause end r fits place it is =
+    is
+    ∙ sym (passes ranged OutOfRange (unless (hasPlace roll) RosterFull (unless test cause end)) fits
+    ∙ passes (hasPlace roll) RosterFull (unless test cause end) place
+    ∙ passes test cause end it)
 
 -- what a call leaves, by its answer or by the rule that the answer equals
 pub left-by : (r rule : Result (Unit {0}) Refusal) (roll left : Roll) (e : Entry) → r ≡ rule → left ≡ ifOk r (added roll e) roll → left ≡ ifOk rule (added roll e) roll

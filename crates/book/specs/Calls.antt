@@ -12,7 +12,7 @@ use Rattle.std.specs.declared.result.Result.the-variants.{Ok, Err}
 use Rattle.refusals.specs.declared.Cause.the-variants.{OutOfRange, RosterFull, AlreadyServed, NotServed, SameSupplier, NotAfterLastEntry, NotAfterLastOpened}
 use Rattle.refusals.specs.declared.Refusal.{Refusal}
 use Rattle.book.specs.declared.roster.Entry.{Entry}
-use Rattle.book.specs.Ranges.{isAccount, isDay, areTerms, unless}
+use Rattle.book.specs.Ranges.{areDated, areTerms, unless}
 use Rattle.book.specs.Entries.{Roll, entry, added, lastEntry, supplierIn}
 
 -- a place is left: the memory goes on after the entries, and fewer than 65,536 are used
@@ -58,7 +58,7 @@ switching opened roll account from supplier =
 
 abbrev pub dropping : ℕ → Roll → ℕ → ℕ → Result (Unit {0}) Refusal
 dropping opened roll account from =
-    admitting roll (isAccount account && isDay from)
+    admitting roll (areDated account from)
     (unless (isServed account roll) NotServed
     (timing opened (lastOf account roll) from))
 

@@ -24,6 +24,10 @@ isHours hours = between 23 hours 25
 abbrev pub isSupplier : ℕ → Bool
 isSupplier supplier = between 1 supplier 32
 
+-- account and from-day
+abbrev pub areDated : ℕ → ℕ → Bool
+areDated account from = isAccount account && isDay from
+
 -- account, from-day and supplier
 abbrev pub areTerms : ℕ → ℕ → ℕ → Bool
 areTerms account from supplier = isAccount account && (isDay from && isSupplier supplier)

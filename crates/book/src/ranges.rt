@@ -1,6 +1,6 @@
 //! The ranges of the figures that the calls take.
 ghost use mathlib.Core.Path.{_≡_};
-ghost use Rattle.book.specs.Ranges.{isAccount, isDay, isHours, isSupplier, areTerms};
+ghost use Rattle.book.specs.Ranges.{isAccount, isDay, isHours, isSupplier, areDated, areTerms};
 ghost use Rattle.refusals.specs.Numbers.{refusal};
 ghost use Rattle.refusals.specs.declared.Layer.the-variants.{Roster};
 use refusals::Cause;
@@ -33,6 +33,13 @@ pub(crate) fn is_supplier(supplier: u32) -> bool
     ensures { λ r. ⌜ r ≡ isSupplier supplier ⌝ }
 {
     1 <= supplier && supplier <= 32
+}
+
+/// Account and from-day: what drop asks.
+pub(crate) fn are_dated(account: u32, from_day: u32) -> bool
+    ensures { λ r. ⌜ r ≡ areDated account «from_day» ⌝ }
+{
+    is_account(account) && is_day(from_day)
 }
 
 /// Whether account, from-day and supplier lie within their ranges.

@@ -7,6 +7,8 @@ pub struct Slip<const STAGE: u8> {
     day: u32,
     hours: u32,
     settled: u32,
+    ghost first: { 1 ≤ STAGE },
+    ghost last: { STAGE ≤ 2 },
     ghost begun: { 1 ≤ day },
     ghost dated: { day ≤ 60000 },
     ghost long: { 23 ≤ hours },

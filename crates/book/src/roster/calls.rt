@@ -11,9 +11,8 @@ use super::Entry;
 use super::Roster;
 use super::places::supplier_in;
 use crate::opening::Book;
+use crate::ranges::are_dated;
 use crate::ranges::are_terms;
-use crate::ranges::is_account;
-use crate::ranges::is_day;
 use crate::ranges::refused;
 use refusals::Cause;
 use refusals::Refusal;
@@ -66,7 +65,7 @@ impl<'a> Roster<'a> {
         ensures answer { λ r. ⌜ r ≡ dropping (now (book .entry) .«last_opened») (rollOf (now (self .entry))) account «from_day» ⌝ }
         ensures after { λ _. ⌜ rollOf (now (self .exit)) ≡ afterCall (rollOf (now (self .entry))) (to-drop (now (book .entry) .«last_opened») account «from_day») ⌝ }
     {
-        self.admit(is_account(account) && is_day(from_day))?;
+        self.admit(are_dated(account, from_day))?;
         let last = self.last_entry(account, None);
         if supplier_in(last) == 0 {
             return Err(refused(Cause::NotServed));

@@ -10,7 +10,7 @@ ghost-self g c =
     let s = c .args .self .now in
     let P : ℕ → Type 0 = λ m. bitOr (s .settled) m < 2 ^ (s .hours) in
     let short = marked-within (s .settled) (s .hours) (c .args .hour) (s .within) (c .pre .begun) (c .pre .within) in
-    (s .begun, (s .dated, (s .long, (s .short, (subst P (sym (mark-is (c .args .hour) (omega arith))) short, tt)))))
+    (s .first, (s .last, (s .begun, (s .dated, (s .long, (s .short, (subst P (sym (mark-is (c .args .hour) (omega arith))) short, tt)))))))
 
 pub returns : need.returns
 returns g c =
