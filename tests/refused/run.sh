@@ -2,18 +2,18 @@
 # Programs that misuse a slip must be refused before they run. Each NAME.txt beside this script is such a program: its first
 # line names the error that the compiler must answer with; a line that ends in `// wrong` is the misuse, one that ends in
 # `// right` stands in its place in the same program corrected, which must pass. So a test can fail either way.
-# The programs are made in a temporary repository, with copies of the crates that they see.
+# The programs are made in a temporary repository, beside a copy of the crates and of what the gate proved of them.
 set -u
 here=$(cd "$(dirname "$0")" && pwd)
 root=$(cd "$here/../.." && pwd)
 work=$(mktemp -d)
 trap 'rm -rf "$work"' EXIT
-mkdir -p "$work/crates/case/src"
-for crate in refusals book; do
-    cp -r "$root/crates/$crate" "$work/crates/$crate"
-    rm -rf "$work/crates/$crate/must-fail"
+cp -r "$root/crates" "$root/crates.txt" "$work" || exit 2
+echo 'case: book refusals' >> "$work/crates.txt"
+mkdir -p "$work/crates/case/src" "$work/target"
+for proved in rlib stamp; do
+    [ ! -d "$root/target/$proved" ] || cp -r "$root/target/$proved" "$work/target" || exit 2
 done
-printf 'refusals:\nbook: refusals\ncase: book refusals\n' > "$work/crates.txt"
 cd "$work" || exit 2
 
 # The program of a text, with the lines of one kind and without the mark.
@@ -24,8 +24,13 @@ program() {
 passed=0
 failed=0
 say() {
-    echo "$1: $2"
-    if [ "$3" = yes ]; then passed=$((passed + 1)); else failed=$((failed + 1)); fi
+    if [ "$3" = yes ]; then
+        echo "ok refused $1: $2"
+        passed=$((passed + 1))
+    else
+        echo "FAILED refused $1: $2"
+        failed=$((failed + 1))
+    fi
 }
 
 for text in "$here"/*.txt; do
@@ -45,5 +50,4 @@ for text in "$here"/*.txt; do
         fi
     fi
 done
-echo "$passed passed, $failed failed"
 [ "$failed" -eq 0 ] && [ "$passed" -gt 0 ]
