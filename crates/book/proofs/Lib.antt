@@ -6,3 +6,4 @@ pub mod Fronts
 pub mod Tables
 pub mod Switches
 pub mod Checking
+pub mod Admitting

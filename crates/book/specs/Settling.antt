@@ -29,6 +29,7 @@ use Rattle.book.specs.Ranges.{between}
 use Rattle.book.specs.Slips.{Day-slip, marked}
 use Rattle.book.specs.Sheets.{suppliersOn}
 use Rattle.book.specs.Checks.{Sheet-line, sheetLine, checkedLines}
+use Rattle.book.specs.declared.settling.Owed.{Owed}
 
 -- what a settling is given: how the arrangement parts unaccounted energy, the slip, the hour, the zone load, the sheet, and the roster's entries
 pub record Hour : Type 0 where
@@ -83,13 +84,17 @@ abbrev pub next : {X Y : Type 0} → Result X Refusal → Result Y Refusal → R
 next (Ok x) then = then
 next (Err e) then = Err e
 
--- What settling answers, with a list of so many places and an archive of that content: the checks in their order, then the number of rows.
-unfoldable pub settling : Hour → ℕ → Contents → Result ℕ Refusal
-settling h room c =
+-- The checks in their order, up to the totals of the groups, with a list of so many places.
+unfoldable pub admitted : Hour → ℕ → Result (ℕ × ℕ) Refusal
+admitted h room =
     cond (inOrder (h .slip .hours) (h .hour) (h .zone) (length (h .sheet)))
     (cond (leb (length (h .sheet)) room)
-    (next (checkedLines (map lineIn (h .sheet)) (servedIn h)) (next (totalsIn h) (booking c (slotIn h) (owedIn h))))
+    (next (checkedLines (map lineIn (h .sheet)) (servedIn h)) (totalsIn h))
     (Err (refusal ListTooShort Sheet 0))) (Err (refusal OutOfRange Sheet 0))
+
+-- What settling answers, with a list of so many places and an archive of that content: these checks, then the number of rows.
+abbrev pub settling : Hour → ℕ → Contents → Result ℕ Refusal
+settling h room c = next (admitted h room) (booking c (slotIn h) (owedIn h))
 
 -- the rows that it adds: of each supplier in rising number, its obligation less its rows of that hour
 abbrev pub rowsIn : Hour → Contents → List Row
@@ -104,3 +109,8 @@ settledList h list c = kept (settling h (length list) c) (map energy (finalLoads
 
 abbrev pub settledSlip : Hour → ℕ → Contents → Day-slip
 settledSlip h room c = kept (settling h room c) (marked (h .hour) (h .slip)) (h .slip)
+
+-- the totals of the groups and the obligations, as the code holds them
+abbrev pub owed : Result (ℕ × ℕ) Refusal → List ℕ → Result Owed Refusal
+owed (Ok t) obligations = Ok (record { interval = t .0; profiled = t .1; suppliers = obligations })
+owed (Err e) obligations = Err e

@@ -4,6 +4,8 @@ ghost use mathlib.Core.List.{map};
 ghost use Prim.Native.Nat.{_≤_};
 ghost use lib.ListN.{length};
 ghost use Rattle.std.specs.shelf.Lists.{sum};
+ghost use Rattle.refusals.specs.Numbers.{refusal};
+ghost use Rattle.refusals.specs.declared.Layer.the-variants.{Sheet};
 ghost use Rattle.rules.specs.Ranges.{most};
 ghost use Rattle.rules.specs.Lines.{accountOf, causeOf, intervalWeight, profiledWeight};
 ghost use Rattle.rules.specs.Totals.{groupTotals};
@@ -11,7 +13,7 @@ ghost use Rattle.archive.specs.Contents.{kept};
 ghost use Rattle.archive.specs.Intake.{entered};
 ghost use Rattle.book.specs.Entries.{rollOf};
 ghost use Rattle.book.specs.Slips.{slipOf};
-ghost use Rattle.book.specs.Settling.{hourOf, inOrder, rowsIn, settling, settledArchive, settledList, settledSlip};
+ghost use Rattle.book.specs.Settling.{hourOf, inOrder, admitted, owed, owedIn, rowsIn, settling, settledArchive, settledList, settledSlip};
 use crate::checks::Checked;
 use crate::checks::check_sheet;
 use crate::roster::Roster;
@@ -70,6 +72,53 @@ fn sheet_totals<R: Arrangement>(
     group_totals(arrangement, zone_load, interval, profiled)
 }
 
+/// What a settling comes to: the totals of the two groups, and each supplier's obligation.
+#[derive(Clone, Copy)]
+pub(crate) struct Owed {
+    interval: u64,
+    profiled: u64,
+    suppliers: [u64; 32],
+}
+
+fn refused(cause: Cause) -> Refusal
+    ensures { λ r. ⌜ r ≡ refusal cause Sheet 0 ⌝ }
+{
+    Refusal {
+        cause,
+        layer: Layer::Sheet,
+        place: 0,
+    }
+}
+
+/// The checks up to the totals of the groups, and then the obligations.
+fn hour_owed<const STAGE: u8, R: Arrangement>(
+    slip: &Slip<STAGE>,
+    hour: u32,
+    zone_load: u32,
+    sheet: &[Line],
+    roster: &Roster,
+    arrangement: &R,
+    places: usize,
+) -> Result<Owed, Refusal>
+    ensures { λ r. ⌜ r ≡ owed (admitted (hourOf (meaning (now (arrangement .entry))) (slipOf (now (slip .entry))) hour «zone_load» (now (sheet .entry)) (rollOf (now (roster .entry)) .entries)) places) (owedIn (hourOf (meaning (now (arrangement .entry))) (slipOf (now (slip .entry))) hour «zone_load» (now (sheet .entry)) (rollOf (now (roster .entry)) .entries))) ⌝ }
+{
+    if !is_in_order(slip.hours(), hour, zone_load, sheet.len()) {
+        return Err(refused(Cause::OutOfRange));
+    }
+    if places < sheet.len() {
+        return Err(refused(Cause::ListTooShort));
+    }
+    let mut table = [0u8; 65_536];
+    check_sheet(sheet, roster, slip.day(), &mut table)?;
+    let (interval, profiled) = sheet_totals(arrangement, zone_load as u64, sheet)?;
+    let suppliers = obligations(interval, profiled, sheet, &table[0..sheet.len()])?;
+    Ok(Owed {
+        interval,
+        profiled,
+        suppliers,
+    })
+}
+
 /// Settles an hour of the slip's day by a sheet, and answers how many rows it added.
 ///
 /// Each supplier in rising number gets a row of its obligation less the sum of its energy rows of that day and hour, unless
@@ -94,33 +143,15 @@ pub fn settle<const STAGE: u8, R: Arrangement, A: Archive>(
     ensures memory { λ r. ⌜ A·Archive .memory (now (archive .exit)) ≡ kept r (entered (A·Archive .stamped) (A·Archive .memory (now (archive .entry))) (length (A·Archive .meaning (now (archive .entry)) .rows)) (rowsIn (hourOf (R·Arrangement .meaning (now (arrangement .entry))) (slipOf (now (slip .entry))) hour «zone_load» (now (sheet .entry)) (rollOf (now (roster .entry)) .entries)) (A·Archive .meaning (now (archive .entry))))) (A·Archive .memory (now (archive .entry))) ⌝ }
     ensures lent { λ _. ⌜ A·Archive .lent (now (archive .exit)) ≡ A·Archive .lent (now (archive .entry)) ⌝ }
 {
-    let day = slip.day();
-    if !is_in_order(slip.hours(), hour, zone_load, sheet.len()) {
-        return Err(Refusal {
-            cause: Cause::OutOfRange,
-            layer: Layer::Sheet,
-            place: 0,
-        });
-    }
-    if list.len() < sheet.len() {
-        return Err(Refusal {
-            cause: Cause::ListTooShort,
-            layer: Layer::Sheet,
-            place: 0,
-        });
-    }
-    let mut suppliers = [0u8; 65_536];
-    check_sheet(sheet, roster, day, &mut suppliers)?;
-    let (interval, profiled) = sheet_totals(arrangement, zone_load as u64, sheet)?;
-    let owed = obligations(interval, profiled, sheet, &suppliers[0..sheet.len()])?;
+    let owed = hour_owed(slip, hour, zone_load, sheet, roster, arrangement, list.len())?;
     let slot = Slot {
         kind: Kind::Energy,
-        day: day as u16,
+        day: slip.day() as u16,
         hour: hour as u8,
         stage: STAGE,
     };
-    let rows = adjust(archive, slot, &owed)?;
-    let _ = share(interval, profiled, sheet, list);
+    let rows = adjust(archive, slot, &owed.suppliers)?;
+    let _ = share(owed.interval, owed.profiled, sheet, list);
     slip.mark(hour);
     Ok(rows)
 }
