@@ -82,6 +82,7 @@ pub record Admitted (h : Hour) (room : ℕ) (os : List ℕ) (o : Owed) : Type 0 
   pub lines : checkedLines (map lineIn (h .sheet)) (servedIn h) ≡ Ok tt
   pub totals : totalsIn h ≡ Ok (o .interval, o .profiled)
   pub sums : o .suppliers ≡ os
+  pub all : admitted h room ≡ Ok (o .interval, o .profiled)
 
 module _ (h : Hour) (room : ℕ) (os : List ℕ) (o : Owed) where
   by-totals : (x : Result (ℕ × ℕ) Refusal) → Ok o ≡ owed x os → (x ≡ Ok (o .interval, o .profiled)) × (o .suppliers ≡ os)
@@ -103,7 +104,7 @@ module _ (h : Hour) (room : ℕ) (os : List ℕ) (o : Owed) where
       let t = by-totals (admitted h room) e in
       let a = after-tests (inOrder (h .slip .hours) (h .hour) (h .zone) (length (h .sheet))) (leb (length (h .sheet)) room) (next (checkedLines (map lineIn (h .sheet)) (servedIn h)) (totalsIn h)) (o .interval, o .profiled) (t .0) in
       let l = after-lines (checkedLines (map lineIn (h .sheet)) (servedIn h)) (totalsIn h) (o .interval, o .profiled) (a .2) in
-      record { order = a .0; fits = leb-true (length (h .sheet)) room (a .1); lines = l .0; totals = l .1; sums = t .1 }
+      record { order = a .0; fits = leb-true (length (h .sheet)) room (a .1); lines = l .0; totals = l .1; sums = t .1; all = t .0 }
 
 -- lawful totals over a sheet are shared without a refusal
 pub sharing-passes : (g h : ℕ) (ws vs : List ℕ) (room : ℕ) → g ≤ most → h ≤ most → length ws ≤ room → sum ws + sum vs ≤ most → sharing g h ws vs room ≡ Ok tt

@@ -7,3 +7,4 @@ pub mod Tables
 pub mod Switches
 pub mod Checking
 pub mod Admitting
+pub mod Settlement

@@ -143,7 +143,15 @@ pub fn settle<const STAGE: u8, R: Arrangement, A: Archive>(
     ensures memory { λ r. ⌜ A·Archive .memory (now (archive .exit)) ≡ kept r (entered (A·Archive .stamped) (A·Archive .memory (now (archive .entry))) (length (A·Archive .meaning (now (archive .entry)) .rows)) (rowsIn (hourOf (R·Arrangement .meaning (now (arrangement .entry))) (slipOf (now (slip .entry))) hour «zone_load» (now (sheet .entry)) (rollOf (now (roster .entry)) .entries)) (A·Archive .meaning (now (archive .entry))))) (A·Archive .memory (now (archive .entry))) ⌝ }
     ensures lent { λ _. ⌜ A·Archive .lent (now (archive .exit)) ≡ A·Archive .lent (now (archive .entry)) ⌝ }
 {
-    let owed = hour_owed(slip, hour, zone_load, sheet, roster, arrangement, list.len())?;
+    let owed = hour_owed(
+        slip,
+        hour,
+        zone_load,
+        sheet,
+        roster,
+        arrangement,
+        list.len(),
+    )?;
     let slot = Slot {
         kind: Kind::Energy,
         day: slip.day() as u16,
