@@ -15,6 +15,7 @@ mod tests {
     use rules::arrangements::ByPercent;
     use rules::group_totals;
     use rules::lines::LineWeights;
+    use rules::obligations;
     use rules::share;
     use std::test::*;
 
@@ -218,6 +219,25 @@ mod tests {
             shared(3_000_000_000, 0, 15, 15),
             ((0, 0, 0), 200_000_000, 9),
         )
+    }
+
+    // Of 3, 5 and 7: to the last supplier and the first, and to numbers that are nobody's.
+    #[test]
+    fn obligations_by_supplier() -> Result<(), Fail> {
+        let sheet = [
+            interval(1, 10_000, 1),
+            profiled(10_000, 7, 1, 1),
+            interval(2, 10_000, 2),
+        ];
+        let sums = obligations(10, 5, &sheet, &[32, 1, 32])
+            .ok()
+            .ok_or("refused")?;
+        check_eq((sums[0], sums[1], sums[30], sums[31]), (5, 0, 0, 10))?;
+        let sums = obligations(10, 5, &sheet, &[0, 33, 2, 1])
+            .ok()
+            .ok_or("refused")?;
+        check_eq((sums[0], sums[1], sums[31]), (0, 7, 0))?;
+        check_eq(told(obligations(10, 5, &sheet, &[1, 1]).err()), (20, 2, 0))
     }
 
     #[test]
