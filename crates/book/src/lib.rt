@@ -7,12 +7,8 @@ mod settling;
 mod sheet;
 mod slip;
 
-pub use checks::Checked;
 pub use opening::Book;
 pub use roster::Entry;
 pub use roster::Roster;
-pub use settling::LineAccounted;
-pub use settling::LineChecked;
-pub use settling::settle;
 pub use sheet::Accounted;
 pub use slip::Slip;

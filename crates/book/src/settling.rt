@@ -126,7 +126,7 @@ fn hour_owed<const STAGE: u8, R: Arrangement>(
 /// load and sheet length (10), a list shorter than the sheet (20), each line in turn (10, 21, 22, 13), all loads too
 /// high (23), a total for a group without load (24), a group total below 0 (25), an amount that no row holds (26), more
 /// rows than free places (27).
-pub fn settle<const STAGE: u8, R: Arrangement, A: Archive>(
+pub(crate) fn settle<const STAGE: u8, R: Arrangement, A: Archive>(
     slip: &mut Slip<STAGE>,
     hour: u32,
     zone_load: u32,
