@@ -75,3 +75,11 @@ module _ (c : Contents) (slot : Slot) (wanted : List ℕ) (sums zs : List ℤ) (
 
   pub due-small : allInRange (lacks wanted sums) 32 ≡ true → allInRange (dueTo slot wanted (c .rows)) 32 ≡ true
   due-small e = sym (allInRange-same (lacks wanted sums) (dueTo slot wanted (c .rows)) 32 (lacks-is slot wanted sums (c .rows) are)) ∙ e
+
+-- what is booked is in range
+pub booking-small : (c : Contents) (slot : Slot) (wanted : List ℕ) (n : ℕ) → booking c slot wanted ≡ Ok n → allInRange (dueTo slot wanted (c .rows)) 32 ≡ true
+booking-small c slot wanted n e = by (allInRange (dueTo slot wanted (c .rows)) 32) e
+  where
+    by : (b : Bool) → cond b (cond (leb (length (lacking slot wanted (c .rows))) (c .free)) (Ok (length (lacking slot wanted (c .rows)))) (Err (refusing ArchiveFull 0))) (Err (refusing AmountTooLarge 0)) ≡ Ok n → b ≡ true
+    by true e = refl
+    by false e = let z : _≡_ {A = ℕ} 0 1 = cc in absurd (omega arith)

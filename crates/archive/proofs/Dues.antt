@@ -1,5 +1,5 @@
 -- The rows of what suppliers 1 to n are due.
-use mathlib.Core.Path.{_≡_, refl, sym, ap, _∙_}
+use mathlib.Core.Path.{_≡_, refl, sym, ap, subst, _∙_}
 use mathlib.Core.Bool.{Bool, true, false, cond, _&&_}
 use mathlib.Core.Logic.{_⊎_, inl, inr, ⊎-elim}
 use mathlib.Core.List.{List, [], _∷_, _++_}
@@ -11,6 +11,8 @@ use lib.IntN.{ℤ, pos, negsuc}
 use lib.ListN.{length, getD, set}
 use mir.Syntax.{w64}
 use mir.Val.{ofZ, toZ, SFits}
+use Rattle.std.specs.shelf.Lists.{All}
+use Rattle.std.proofs.shelf.Elements.{all-append}
 use Rattle.std.proofs.shelf.Lists.{append-nil, length-append, length-push, length-set, getD-set-same, getD-set-other}
 use Rattle.std.proofs.shelf.Signed.{toZ-ofZ, ints}
 use Rattle.std.proofs.shelf.Tests.{and-parts, and-from, and-left, and-right, cases-eq, cond-both, cond-false, le-leb, ne-eqb}
@@ -130,3 +132,14 @@ dues-more all due i z l e below s low high =
     (λ q. let at : s - 1 ≡ i = omega arith in ap (λ n. getD (set all i z) n (pos 0)) at ∙ getD-set-same all i z (pos 0) l ∙ e ∙ ap due (sym q))
     (λ ne. getD-set-other all i (s - 1) z (pos 0) (λ q. ne (omega arith)) ∙ below s low (omega arith))
     (cases-eq s (i + 1))
+
+-- the rows that are due are lawful
+pub rowsFor-lawful : (slot : Slot) (due : ℕ → ℤ) → lawfulSlot slot ≡ true → allInRange due 32 ≡ true → (n : ℕ) → n ≤ 32 → All Lawful (rowsFor slot due n)
+unfolding rowsFor
+rowsFor-lawful slot due good small zero l = tt
+rowsFor-lawful slot due good small (suc n) l =
+    all-append Lawful (rowsFor slot due n) (rowFor slot (suc n) (due (suc n))) (rowsFor-lawful slot due good small n (omega arith))
+    (⊎-elim
+    (λ e. subst (All Lawful) (sym (rowFor-none slot (suc n) (due (suc n)) e)) tt)
+    (λ ne. subst (All Lawful) (sym (rowFor-one slot (suc n) (due (suc n)) ne)) (lawful-due slot (suc n) (due (suc n)) good (omega arith) (omega arith) (allInRange-at due (suc n) 32 (omega arith) (omega arith) small) ne, tt))
+    (cases-zero (due (suc n))))

@@ -1,7 +1,7 @@
 -- Totals over a list, and sums over 1 to n.
 use mathlib.Core.Path.{_≡_, refl, sym, ap, _∙_}
 use mathlib.Core.Logic.{⊎-elim}
-use mathlib.Core.List.{List, [], _∷_, _++_}
+use mathlib.Core.List.{List, [], _∷_, _++_, map}
 use Prim.Native.Nat.{ℕ, zero, suc, _+_, _*_, _≤_, _<_}
 use native.Mathlib.Nat.{add-mul}
 use native.Mathlib.Numerals.{add-one}
@@ -9,10 +9,12 @@ use native.Mathlib.Omega.{arith}
 use lib.IntN.{ℤ, pos, negℤ, _+ℤ_, +ℤ-idr, +ℤ-idl, +ℤ-assoc}
 use lib.ListN.{length, getD, take}
 use lib.Signed.{_≤ℤ_}
-use Rattle.std.specs.shelf.Lists.{All, folded}
+use Rattle.std.specs.Iters.{counting}
+use Rattle.std.specs.shelf.Lists.{All, folded, sum}
+use Rattle.std.proofs.shelf.Counted.{map-counting-more}
 use Rattle.std.proofs.shelf.Elements.{all-getD}
 use Rattle.std.proofs.shelf.Signed.{ints}
-use Rattle.std.proofs.shelf.Sums.{folded-push, folded-more}
+use Rattle.std.proofs.shelf.Sums.{folded-push, folded-more, sumBy-push}
 use Rattle.std.proofs.shelf.Tests.{cases-eq}
 use Rattle.archive.specs.Sums.{total, upTo}
 
@@ -93,3 +95,12 @@ upTo-total n f (x ∷ xs) =
     ∙ upTo-add n (λ s. f s x) (λ s. total (f s) xs)
     ∙ ap (λ z. upTo (λ s. f s x) n +ℤ z) (upTo-total n f xs)
     ∙ sym (total-cons (λ y. upTo (λ s. f s y) n) x xs)
+
+-- of natural numbers
+pub upTo-pos : (n : ℕ) (f : ℕ → ℕ) → upTo (λ s. pos (f s)) n ≡ pos (sum (map f (counting 1 n)))
+unfolding upTo
+upTo-pos zero f = refl
+upTo-pos (suc n) f =
+    let m = map-counting-more f 1 n (suc n) (omega arith) in
+    let e : sum (map f (counting 1 (suc n))) ≡ sum (map f (counting 1 n)) + f (suc n) = ap (λ k. sum (map f (counting 1 k))) (sym (add-one n)) ∙ ap sum m ∙ sumBy-push (λ x. x) (map f (counting 1 n)) (f (suc n)) in
+    ap (λ z. z +ℤ pos (f (suc n))) (upTo-pos n f) ∙ ap pos (sym e)

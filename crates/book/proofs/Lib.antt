@@ -8,3 +8,4 @@ pub mod Switches
 pub mod Checking
 pub mod Admitting
 pub mod Settlement
+pub mod Reconciling

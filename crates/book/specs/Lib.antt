@@ -7,3 +7,4 @@ pub mod Calls
 pub mod Sheets
 pub mod Checks
 pub mod Settling
+pub mod Settled

@@ -13,6 +13,8 @@ ghost use Rattle.archive.specs.Contents.{kept};
 ghost use Rattle.archive.specs.Intake.{entered};
 ghost use Rattle.book.specs.Entries.{rollOf};
 ghost use Rattle.book.specs.Slips.{slipOf};
+ghost use Rattle.std.specs.Vec.{made};
+ghost use Rattle.book.specs.Settled.{Settled, Settling-law};
 ghost use Rattle.book.specs.Settling.{hourOf, inOrder, admitted, owed, owedIn, rowsIn, settling, settledArchive, settledList, settledSlip};
 use crate::checks::Checked;
 use crate::checks::check_sheet;
@@ -142,7 +144,11 @@ pub(crate) fn settle<const STAGE: u8, R: Arrangement, A: Archive>(
     ensures slip { λ _. ⌜ slipOf (now (slip .exit)) ≡ settledSlip (hourOf (R·Arrangement .meaning (now (arrangement .entry))) (slipOf (now (slip .entry))) hour «zone_load» (now (sheet .entry)) (rollOf (now (roster .entry)) .entries)) (length (now (list .entry))) (A·Archive .meaning (now (archive .entry))) ⌝ }
     ensures memory { λ r. ⌜ A·Archive .memory (now (archive .exit)) ≡ kept r (entered (A·Archive .stamped) (A·Archive .memory (now (archive .entry))) (length (A·Archive .meaning (now (archive .entry)) .rows)) (rowsIn (hourOf (R·Arrangement .meaning (now (arrangement .entry))) (slipOf (now (slip .entry))) hour «zone_load» (now (sheet .entry)) (rollOf (now (roster .entry)) .entries)) (A·Archive .meaning (now (archive .entry))))) (A·Archive .memory (now (archive .entry))) ⌝ }
     ensures lent { λ _. ⌜ A·Archive .lent (now (archive .exit)) ≡ A·Archive .lent (now (archive .entry)) ⌝ }
+    ensures settled { λ r. ⌜ made r (λ _. Settled (hourOf (R·Arrangement .meaning (now (arrangement .entry))) (slipOf (now (slip .entry))) hour «zone_load» (now (sheet .entry)) (rollOf (now (roster .entry)) .entries)) (A·Archive .meaning (now (archive .entry)) .rows) (A·Archive .meaning (now (archive .exit)) .rows)) ⌝ }
+    ensures law { λ _. ⌜ Settling-law ⌝ }
 {
+    // What an archive holds is lawful: its count says so.
+    let _held = archive.count();
     let owed = hour_owed(
         slip,
         hour,
