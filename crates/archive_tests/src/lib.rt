@@ -20,68 +20,8 @@ mod tests {
     use std::test::*;
 
     // Day 9000, hour 1: suppliers 1 and 2 receive 7541 and 75459 in stage 1, and 87 and 13 in stage 2.
-    const WORKED: [u8; 60] = [
-        0x45,
-        0x48,
-        0x23,
-        0x28,
-        1,
-        1,
-        1,
-        0,
-        0,
-        0,
-        0,
-        0,
-        0,
-        0x1D,
-        0x75, // 7541
-        0x45,
-        0x48,
-        0x23,
-        0x28,
-        1,
-        1,
-        2,
-        0,
-        0,
-        0,
-        0,
-        0,
-        1,
-        0x26,
-        0xC3, // 75459
-        0x45,
-        0x48,
-        0x23,
-        0x28,
-        1,
-        2,
-        1,
-        0,
-        0,
-        0,
-        0,
-        0,
-        0,
-        0,
-        0x57, // 87
-        0x45,
-        0x48,
-        0x23,
-        0x28,
-        1,
-        2,
-        2,
-        0,
-        0,
-        0,
-        0,
-        0,
-        0,
-        0,
-        0x0D, // 13
-    ];
+    const WORKED: [u8; 60] =
+        *b"EH\x23\x28\x01\x01\x01\0\0\0\0\0\0\x1D\x75EH\x23\x28\x01\x01\x02\0\0\0\0\0\x01\x26\xC3EH\x23\x28\x01\x02\x01\0\0\0\0\0\0\0\x57EH\x23\x28\x01\x02\x02\0\0\0\0\0\0\0\x0D";
 
     fn energy(day: u16, hour: u8, stage: u8, supplier: u8, amount: i64) -> Row {
         Row {
@@ -130,72 +70,24 @@ mod tests {
         let table = [
             (
                 energy(9000, 1, 2, 1, 87),
-                [0x45, 0x48, 0x23, 0x28, 1, 2, 1, 0, 0, 0, 0, 0, 0, 0, 0x57],
+                b"EH\x23\x28\x01\x02\x01\0\0\0\0\0\0\0\x57",
             ),
             (
                 energy(1, 1, 1, 1, -1),
-                [
-                    0x45,
-                    0x48,
-                    0,
-                    1,
-                    1,
-                    1,
-                    1,
-                    255,
-                    255,
-                    255,
-                    255,
-                    255,
-                    255,
-                    255,
-                    255,
-                ],
+                b"EH\0\x01\x01\x01\x01\xFF\xFF\xFF\xFF\xFF\xFF\xFF\xFF",
             ),
             (
                 energy(60_000, 25, 2, 32, 3_000_000_000),
-                [
-                    0x45,
-                    0x48,
-                    0xEA,
-                    0x60,
-                    25,
-                    2,
-                    32,
-                    0,
-                    0,
-                    0,
-                    0,
-                    0xB2,
-                    0xD0,
-                    0x5E,
-                    0,
-                ],
+                b"EH\xEA\x60\x19\x02\x20\0\0\0\0\xB2\xD0\x5E\0",
             ),
             (
                 peak(258, 0, 0, 32, -3_000_000_000),
-                [
-                    0x50,
-                    0x4C,
-                    1,
-                    2,
-                    0,
-                    0,
-                    32,
-                    255,
-                    255,
-                    255,
-                    255,
-                    0x4D,
-                    0x2F,
-                    0xA2,
-                    0,
-                ],
+                b"PL\x01\x02\0\0\x20\xFF\xFF\xFF\xFF\x4D\x2F\xA2\0",
             ),
         ];
         for (row, bytes) in table {
-            check_eq(row.to_bytes(), bytes)?;
-            let read = Row::read(&bytes)?;
+            check_eq(&row.to_bytes(), bytes)?;
+            let read = Row::read(bytes)?;
             check_eq(read.row, row)?;
             check_eq(read.rest.len(), 0)?;
         }
