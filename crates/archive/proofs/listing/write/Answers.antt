@@ -8,5 +8,5 @@ returns c =
     let all : n - 0 ≡ n = omega arith in
     record {
       answer = sym (cond-true _ _ _ (le-leb n (length c.args.out.now) (omega arith)));
-      written = ap (λ t. t ++ drop (n - 0) c.args.out.now) c.copy-from-slice.ensures.after ∙ ap (λ k. c.args.text.now ++ drop k c.args.out.now) all;
+      written = ap (λ t. t ++ drop (n - 0) c.args.out.now) c.copy_from_slice.ensures.after ∙ ap (λ k. c.args.text.now ++ drop k c.args.out.now) all;
     }

@@ -12,13 +12,13 @@ pub returns-then-not-within-2 : goal.returns-then-not-within-2
 unfolding lawful
 returns-then-not-within-2 c = grind arith
 
-pub returns-then-is-bookable : goal.returns-then-is-bookable
+pub returns-then-is_bookable : goal.returns-then-is_bookable
 unfolding lawful
-returns-then-is-bookable c = grind arith
+returns-then-is_bookable c = grind arith
 
-pub returns-else-is-bookable : goal.returns-else-is-bookable
+pub returns-else-is_bookable : goal.returns-else-is_bookable
 unfolding lawful
-returns-else-is-bookable c =
+returns-else-is_bookable c =
     let f : SFits w64 c.args.self.amount = search rules in
-    let e = simp to_z-of_z at c.is-bookable.ensures in
-    c.if-is-bookable.false ∙ sym (unbookable c.args.self (sym e ∙ c.if-is-bookable.false))
+    let e = simp to_z-of_z at c.is_bookable.ensures in
+    c.if-is_bookable.false ∙ sym (unbookable c.args.self (sym e ∙ c.if-is_bookable.false))

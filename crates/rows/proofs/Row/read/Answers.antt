@@ -4,18 +4,18 @@ use Rattle.rows.specs.Format.{reading}
 use Rattle.rows.proofs.Found.{writes_back}
 use Rattle.rows.proofs.Row.read.Goals as goal
 
-pub returns-in-default : goal.returns-in-default
+pub returns-in_default : goal.returns-in_default
 unfolding reading
-returns-in-default c = record { reads = grind arith; again = writes_back }
+returns-in_default c = record { reads = grind arith; again = writes_back }
 
-pub returns-in-default-kind-of : goal.returns-in-default-kind-of
+pub returns-in_default-kind_of : goal.returns-in_default-kind_of
 unfolding reading
-returns-in-default-kind-of c = record { reads = grind arith; again = writes_back }
+returns-in_default-kind_of c = record { reads = grind arith; again = writes_back }
 
-pub returns-then-is-lawful : goal.returns-then-is-lawful
+pub returns-then-is_lawful : goal.returns-then-is_lawful
 unfolding reading
-returns-then-is-lawful c = record { reads = (grind arith, take_rest c.args.bytes.now 15); again = writes_back }
+returns-then-is_lawful c = record { reads = (grind arith, take_rest c.args.bytes.now 15); again = writes_back }
 
-pub returns-else-is-lawful : goal.returns-else-is-lawful
+pub returns-else-is_lawful : goal.returns-else-is_lawful
 unfolding reading
-returns-else-is-lawful c = record { reads = grind arith; again = writes_back }
+returns-else-is_lawful c = record { reads = grind arith; again = writes_back }

@@ -3,8 +3,8 @@ use Rattle.std.proofs.lemmas.Nat.{mul-le}
 use Rattle.rules.proofs.Products.{loss_small, usage_small, profile_small, product_small}
 use Rattle.rules.proofs.loads.profiled_load.Goals as goal
 
-pub overflow-mul-profile-2 : goal.overflow-mul-profile-2
-overflow-mul-profile-2 c =
+pub overflow_mul-profile-2 : goal.overflow_mul-profile-2
+overflow_mul-profile-2 c =
     let p = c.args.profile in
     let b = c.args.billed in
     let l = c.args.loss in

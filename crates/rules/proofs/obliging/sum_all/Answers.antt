@@ -53,15 +53,15 @@ more_second g c =
     front_more f ls i y c.index-lines-i.result c.loop-i-test.true c.index-lines-i.is (ap (λ t. t.1) c.weights-w.ensures) H k
     (pot_share c.loop-i.second H (sum_by f ls) (sum_by f (take i ls)) y c.loop-i.invariant.1 k c.serve-in-loop-i.ensures.value)
 
-pub add-to-requires : goal.add-to-requires
-add-to-requires g c =
+pub add_to-requires : goal.add_to-requires
+add_to-requires g c =
     let m = g.L.Weighted in
     let ls = c.args.lines.now in
     let xs = c.args.suppliers.now in
     let i = c.loop-i.i in
     let G = c.args.first.total in
     let H = c.args.second.total in
-    let at = (goal.at.add-to-requires g c).After-serve-in-loop-i in
+    let at = (goal.at.add_to-requires g c).After-serve-in-loop-i in
     let fit = sums_fit xs c.loop-i.sums i c.serve.result c.serve-in-loop-i.result
     (front m.in_first ls G i) (front m.in_second ls H i) (front m.in_first ls G (i + 1)) (front m.in_second ls H (i + 1))
     (length_front m.in_first ls i G (omega arith)) (length_front m.in_second ls i H (omega arith)) (more_first g at) (more_second g at) c.loop-i.invariant.2
@@ -90,7 +90,7 @@ loop-i-preserved g c =
     (get_or xs i 0) (omega (arith, c.requires.room)) refl in (
       pot_after c.loop-i.first G (sum_by m.in_first ls) (sum_by m.in_first (take i ls)) x c.loop-i.invariant.0 c.serve.new.self (sum_by m.in_first (take (i + 1) ls)) c.serve.ensures.after (weight_more m.in_first ls i x l lt is x-is),
       pot_after c.loop-i.second H (sum_by m.in_second ls) (sum_by m.in_second (take i ls)) y c.loop-i.invariant.1 c.serve-in-loop-i.new.self (sum_by m.in_second (take (i + 1) ls)) c.serve-in-loop-i.ensures.after (weight_more m.in_second ls i y l lt is y-is),
-      c.add-to.ensures ∙ summed,
+      c.add_to.ensures ∙ summed,
     )
 
 pub returns : goal.returns

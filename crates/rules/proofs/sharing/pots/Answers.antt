@@ -24,15 +24,15 @@ returns-then-places-lines g c =
     let no = share_short c.args.first c.args.second ws vs c.args.places c.if-first-gt-MOST.false c.if-second-gt-MOST.false (omega (arith, length-map ls m.in_first)) in
     sym (ap (λ s. unless_refused s (pots_of c.args.first c.args.second ws vs)) no)
 
-pub returns-in-err-first-whole : goal.returns-in-err-first-whole
-returns-in-err-first-whole g c =
+pub returns-in_err-first_whole : goal.returns-in_err-first_whole
+returns-in_err-first_whole g c =
     let m = g.L.Weighted in
     let ls = c.args.lines.now in
     let ws = map m.in_first ls in
     let vs = map m.in_second ls in
-    let p = err_from_is_err_and c.from-residual.result c.from-residual.ensures.1 in
+    let p = err_from_is_err_and c.from_residual.result c.from_residual.ensures.1 in
     let weighs = share_weighs c.args.first c.args.second ws vs c.args.places c.if-first-gt-MOST.false c.if-second-gt-MOST.false (omega (arith, length-map ls m.in_first)) in
-    let no : sharing c.args.first c.args.second ws vs c.args.places ≡ Err c.in-err-first-whole.field-0.0 = weighs ∙ ap if_weighed (sym c.in-err-first-whole.ensures) in
+    let no : sharing c.args.first c.args.second ws vs c.args.places ≡ Err c.in_err-first_whole.field-0.0 = weighs ∙ ap if_weighed (sym c.in_err-first_whole.ensures) in
     p.1 ∙ ap Err p.2 ∙ sym (ap (λ s. unless_refused s (pots_of c.args.first c.args.second ws vs)) no)
 
 pub returns : goal.returns
@@ -43,9 +43,9 @@ returns g c =
     let vs = map m.in_second ls in
     let G = c.args.first in
     let H = c.args.second in
-    let weights = weights_are ws vs (c.in-ok-first-whole.first-whole, c.in-ok-first-whole.second-whole) c.in-ok-first-whole.ensures in
+    let weights = weights_are ws vs (c.in_ok-first_whole.first_whole, c.in_ok-first_whole.second_whole) c.in_ok-first_whole.ensures in
     let weighs = share_weighs G H ws vs c.args.places c.if-first-gt-MOST.false c.if-second-gt-MOST.false (omega (arith, length-map ls m.in_first)) in
-    let ok : sharing G H ws vs c.args.places ≡ Ok tt = weighs ∙ ap if_weighed (sym c.in-ok-first-whole.ensures) in
+    let ok : sharing G H ws vs c.args.places ≡ Ok tt = weighs ∙ ap if_weighed (sym c.in_ok-first_whole.ensures) in
     let first : c.new.result ≡ pot_at G (sum ws) 0 = c.new.ensures ∙ ap (λ w. pot_at G w 0) weights.0 in
     let second : c.new-2.result ≡ pot_at H (sum vs) 0 = c.new-2.ensures ∙ ap (λ w. pot_at H w 0) weights.1 in
     ap (λ p. Ok (p, c.new-2.result)) first ∙ ap (λ p. Ok (pot_at G (sum ws) 0, p)) second ∙ sym (ap (λ s. unless_refused s (pots_of G H ws vs)) ok)

@@ -6,41 +6,41 @@ use Rattle.archive.proofs.Bringing.{adjusting_law}
 use Rattle.archive.proofs.Dues.{all_in_range_same}
 use Rattle.archive.proofs.adjusting.calls.adjust.Goals as goal
 
-pub returns-then-not-is-lawful : goal.returns-then-not-is-lawful
-returns-then-not-is-lawful g c =
+pub returns-then-not-is_lawful : goal.returns-then-not-is_lawful
+returns-then-not-is_lawful g c =
     let before = g.A.Archive.meaning c.args.archive.now in
-    let a = unlawful_slot before c.args.slot c.args.wanted.now (sym c.is-lawful.ensures ∙ c.if-not-is-lawful.true) in
+    let a = unlawful_slot before c.args.slot c.args.wanted.now (sym c.is_lawful.ensures ∙ c.if-not-is_lawful.true) in
     record { answer = a; after = adjusted_by before c.args.slot c.args.wanted.now _ a; memory = refl; lent = refl; law = adjusting_law }
 
-pub returns-in-default : goal.returns-in-default
-returns-in-default g c =
+pub returns-in_default : goal.returns-in_default
+returns-in_default g c =
     let before = g.A.Archive.meaning c.args.archive.now in
     let slot = c.args.slot in
     let wanted = c.args.wanted.now in
-    let due = lacks_is slot wanted c.hour-sums-sums.result.suppliers before.rows c.hour-sums-sums.ensures.suppliers in
-    let a = too_large before slot wanted (sym c.is-lawful.ensures ∙ c.if-not-is-lawful.false) (sym (all_in_range_same _ (due_to slot wanted before.rows) 32 due) ∙ c.in-default.ensures) in
+    let due = lacks_is slot wanted c.hour_sums-sums.result.suppliers before.rows c.hour_sums-sums.ensures.suppliers in
+    let a = too_large before slot wanted (sym c.is_lawful.ensures ∙ c.if-not-is_lawful.false) (sym (all_in_range_same _ (due_to slot wanted before.rows) 32 due) ∙ c.in_default.ensures) in
     record { answer = a; after = adjusted_by before slot wanted _ a; memory = refl; lent = refl; law = adjusting_law }
 
-pub returns-then-rows-free-places : goal.returns-then-rows-free-places
-returns-then-rows-free-places g c =
+pub returns-then-rows-free_places : goal.returns-then-rows-free_places
+returns-then-rows-free_places g c =
     let before = g.A.Archive.meaning c.args.archive.now in
     let slot = c.args.slot in
     let wanted = c.args.wanted.now in
-    let sums = c.hour-sums-sums.result.suppliers in
+    let sums = c.hour_sums-sums.result.suppliers in
     let q = c.in-Some.ensures in
-    let rows = found_rows before slot wanted sums c.in-Some.all c.hour-sums-sums.ensures.suppliers q.1 in
-    let small = due_small before slot wanted sums c.in-Some.all c.hour-sums-sums.ensures.suppliers q.1 q.0 in
-    let a = no_place before slot wanted (sym c.is-lawful.ensures ∙ c.if-not-is-lawful.false) small (omega (arith, c.rows-needed-rows.ensures slot, ap length rows, c.free-places.ensures)) in
+    let rows = found_rows before slot wanted sums c.in-Some.all c.hour_sums-sums.ensures.suppliers q.1 in
+    let small = due_small before slot wanted sums c.in-Some.all c.hour_sums-sums.ensures.suppliers q.1 q.0 in
+    let a = no_place before slot wanted (sym c.is_lawful.ensures ∙ c.if-not-is_lawful.false) small (omega (arith, c.rows_needed-rows.ensures slot, ap length rows, c.free_places.ensures)) in
     record { answer = a; after = adjusted_by before slot wanted _ a; memory = refl; lent = refl; law = adjusting_law }
 
-pub append-dues-requires : goal.append-dues-requires
-append-dues-requires g c =
+pub append_dues-requires : goal.append_dues-requires
+append_dues-requires g c =
     let before = g.A.Archive.meaning c.args.archive.now in
     let q = c.in-Some.ensures in
     record {
-      slot = sym c.is-lawful.ensures ∙ c.if-not-is-lawful.false;
-      amounts = found_small before c.args.slot c.args.wanted.now c.hour-sums-sums.result.suppliers c.in-Some.all c.hour-sums-sums.ensures.suppliers q.1 q.0;
-      room = omega (arith, c.rows-needed-rows.ensures c.args.slot, c.free-places.ensures);
+      slot = sym c.is_lawful.ensures ∙ c.if-not-is_lawful.false;
+      amounts = found_small before c.args.slot c.args.wanted.now c.hour_sums-sums.result.suppliers c.in-Some.all c.hour_sums-sums.ensures.suppliers q.1 q.0;
+      room = omega (arith, c.rows_needed-rows.ensures c.args.slot, c.free_places.ensures);
     }
 
 pub returns : goal.returns
@@ -48,16 +48,16 @@ returns g c =
     let before = g.A.Archive.meaning c.args.archive.now in
     let slot = c.args.slot in
     let wanted = c.args.wanted.now in
-    let sums = c.hour-sums-sums.result.suppliers in
+    let sums = c.hour_sums-sums.result.suppliers in
     let q = c.in-Some.ensures in
-    let rows = found_rows before slot wanted sums c.in-Some.all c.hour-sums-sums.ensures.suppliers q.1 in
-    let small = due_small before slot wanted sums c.in-Some.all c.hour-sums-sums.ensures.suppliers q.1 q.0 in
-    let count = c.rows-needed-rows.ensures slot ∙ ap length rows in
-    let a = all_placed before slot wanted (sym c.is-lawful.ensures ∙ c.if-not-is-lawful.false) small (omega (arith, count, c.free-places.ensures)) in
+    let rows = found_rows before slot wanted sums c.in-Some.all c.hour_sums-sums.ensures.suppliers q.1 in
+    let small = due_small before slot wanted sums c.in-Some.all c.hour_sums-sums.ensures.suppliers q.1 q.0 in
+    let count = c.rows_needed-rows.ensures slot ∙ ap length rows in
+    let a = all_placed before slot wanted (sym c.is_lawful.ensures ∙ c.if-not-is_lawful.false) small (omega (arith, count, c.free_places.ensures)) in
     record {
       answer = ap Ok count ∙ a;
-      after = c.append-dues.ensures.after ∙ ap (with_rows before) rows ∙ adjusted_by before slot wanted _ a;
-      memory = c.append-dues.ensures.memory ∙ ap (entered g.A.Archive.stamped (g.A.Archive.memory c.args.archive.now) (length before.rows)) rows;
-      lent = c.append-dues.ensures.lent;
+      after = c.append_dues.ensures.after ∙ ap (with_rows before) rows ∙ adjusted_by before slot wanted _ a;
+      memory = c.append_dues.ensures.memory ∙ ap (entered g.A.Archive.stamped (g.A.Archive.memory c.args.archive.now) (length before.rows)) rows;
+      lent = c.append_dues.ensures.lent;
       law = adjusting_law;
     }

@@ -9,8 +9,8 @@ use Rattle.archive.proofs.adjusting.calls.append_dues.Goals as goal
 pub loop-i-init : goal.loop-i-init
 loop-i-init g c = (refl, given_none _ _ _ _ _)
 
-pub append-due-requires : goal.append-due-requires
-append-due-requires g c =
+pub append_due-requires : goal.append_due-requires
+append_due-requires g c =
     let i = c.loop-i.i in
     let slot = c.args.slot in
     let due : ℕ → ℤ = λ s. get_or c.args.dues.now (s - 1) (pos 0) in
@@ -33,9 +33,9 @@ loop-i-preserved g c =
     let at : i ≡ i + 1 - 1 = omega arith in
     let f : SFits w64 (get_or c.args.dues.now i (pos 0)) = search rules in
     let next = ap (λ k. get_or c.args.dues.now k (pos 0)) at in
-    let after = simp to_z-of_z at c.append-due.ensures.after in
-    let memory = simp to_z-of_z at c.append-due.ensures.memory in
-    (c.append-due.ensures.lent ∙ c.loop-i.invariant.0, given_more g.A.Archive.stamped slot due _ _ i (g.A.Archive.meaning c.loop-i.archive) _ (g.A.Archive.memory c.loop-i.archive) _ (after ∙ ap (λ z. with_rows (g.A.Archive.meaning c.loop-i.archive) (row_for slot (i + 1) z)) next) (memory ∙ ap (λ z. entered g.A.Archive.stamped (g.A.Archive.memory c.loop-i.archive) (length (g.A.Archive.meaning c.loop-i.archive).rows) (row_for slot (i + 1) z)) next) c.loop-i.invariant.1)
+    let after = simp to_z-of_z at c.append_due.ensures.after in
+    let memory = simp to_z-of_z at c.append_due.ensures.memory in
+    (c.append_due.ensures.lent ∙ c.loop-i.invariant.0, given_more g.A.Archive.stamped slot due _ _ i (g.A.Archive.meaning c.loop-i.archive) _ (g.A.Archive.memory c.loop-i.archive) _ (after ∙ ap (λ z. with_rows (g.A.Archive.meaning c.loop-i.archive) (row_for slot (i + 1) z)) next) (memory ∙ ap (λ z. entered g.A.Archive.stamped (g.A.Archive.memory c.loop-i.archive) (length (g.A.Archive.meaning c.loop-i.archive).rows) (row_for slot (i + 1) z)) next) c.loop-i.invariant.1)
 
 pub returns : goal.returns
 returns g c =

@@ -9,13 +9,13 @@ pub loop-i-init : goal.loop-i-init
 unfolding all_in_range
 loop-i-init c = (refl, refl, λ s l h. absurd (omega arith))
 
-pub returns-in-default : goal.returns-in-default
-returns-in-default c =
+pub returns-in_default : goal.returns-in_default
+returns-in_default c =
     let i = c.loop-i.i in
     let due : ℕ → ℤ = lacks c.args.wanted.now c.args.sums.now in
     let at : i ≡ i + 1 - 1 = omega arith in
     let f : SFits w64 (get_or c.args.sums.now i (pos 0)) = search rules in
-    let e = simp to_z-of_z at c.in-default.ensures in
+    let e = simp to_z-of_z at c.in_default.ensures in
     all_in_range_fails due (i + 1) 32 (omega arith) (omega arith) (ap (λ k. in_range (pos (get_or c.args.wanted.now k 0) -ℤ get_or c.args.sums.now k (pos 0))) (sym at) ∙ e)
 
 pub loop-i-preserved : goal.loop-i-preserved

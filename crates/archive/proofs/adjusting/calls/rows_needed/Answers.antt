@@ -9,8 +9,8 @@ use Rattle.archive.proofs.adjusting.calls.rows_needed.Goals.{then-dues-i-ne0, el
 pub loop-i-init : goal.loop-i-init
 loop-i-init c = λ slot. sym (ap length (rows_for-none slot (λ s. get_or c.args.dues.now (s - 1) (pos 0))))
 
-pub overflow-add-rows : goal.overflow-add-rows
-overflow-add-rows c =
+pub overflow_add-rows : goal.overflow_add-rows
+overflow_add-rows c =
     let slot : Slot = record { kind = Energy; day = 0; hour = 0; stage = 0 } in
     omega (arith, c.loop-i.invariant slot, rows_for_short slot (λ s. get_or c.args.dues.now (s - 1) (pos 0)) c.loop-i.i)
 

@@ -14,14 +14,14 @@ load-total-requires c =
       figure = fits_at c.args.self c.args.figures.now c.loop-figure.figure-index c.loop-figure-test.true c.requires.figures;
     }
 
-pub overflow-add-total : goal.overflow-add-total
-overflow-add-total c =
+pub overflow_add-total : goal.overflow_add-total
+overflow_add-total c =
     let x = get_or c.args.figures.now c.loop-figure.figure-index 0 in
     let fits = fits_at c.args.self c.args.figures.now c.loop-figure.figure-index c.loop-figure-test.true c.requires.figures in
     omega (arith, load_small c.args.loss c.args.self x c.requires.loss c.requires.further fits)
 
-pub overflow-add-number : goal.overflow-add-number
-overflow-add-number c = omega arith
+pub overflow_add-number : goal.overflow_add-number
+overflow_add-number c = omega arith
 
 pub loop-figure-preserved : goal.loop-figure-preserved
 loop-figure-preserved c =

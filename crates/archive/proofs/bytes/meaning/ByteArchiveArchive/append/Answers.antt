@@ -9,36 +9,36 @@ use Rattle.archive.proofs.Putting.{written_none, room_for, length-put, put_step,
 use Rattle.archive.proofs.bytes.meaning.ByteArchiveArchive.append.Goals as goal
 
 pub loop-i-init : goal.loop-i-init
-loop-i-init c = (refl, written_none c.args.self.now.memory.now (c.args.self.now.used * 15) c.to-bytes-bytes.result, refl)
+loop-i-init c = (refl, written_none c.args.self.now.memory.now (c.args.self.now.used * 15) c.to_bytes-bytes.result, refl)
 
-pub invariant-of-self : goal.invariant-of-self
-invariant-of-self c =
+pub invariant_of-self : goal.invariant_of-self
+invariant_of-self c =
     let a = c.args.self.now in
     let room = room_for a.memory.now a.used (omega arith) in
-    let s = put_step a.memory.now c.to-bytes-bytes.result a.used c.args.row a.whole c.to-bytes-bytes.ensures.bytes c.loop-i.self.memory.now c.loop-i.i c.loop-i-test.true room c.loop-i.invariant.1 in
-    (put_whole a.memory.now c.to-bytes-bytes.result a.used c.args.row a.whole c.to-bytes-bytes.ensures.bytes _ (c.loop-i.i + 1) c.loop-i.self.used c.loop-i.invariant.0 s, (c.loop-i.self.few, tt))
+    let s = put_step a.memory.now c.to_bytes-bytes.result a.used c.args.row a.whole c.to_bytes-bytes.ensures.bytes c.loop-i.self.memory.now c.loop-i.i c.loop-i-test.true room c.loop-i.invariant.1 in
+    (put_whole a.memory.now c.to_bytes-bytes.result a.used c.args.row a.whole c.to_bytes-bytes.ensures.bytes _ (c.loop-i.i + 1) c.loop-i.self.used c.loop-i.invariant.0 s, (c.loop-i.self.few, tt))
 
 pub loop-i-preserved : goal.loop-i-preserved
 loop-i-preserved c =
     let a = c.args.self.now in
     let room = room_for a.memory.now a.used (omega arith) in
-    (c.loop-i.invariant.0, put_step a.memory.now c.to-bytes-bytes.result a.used c.args.row a.whole c.to-bytes-bytes.ensures.bytes c.loop-i.self.memory.now c.loop-i.i c.loop-i-test.true room c.loop-i.invariant.1, c.loop-i.invariant.2)
+    (c.loop-i.invariant.0, put_step a.memory.now c.to_bytes-bytes.result a.used c.args.row a.whole c.to_bytes-bytes.ensures.bytes c.loop-i.self.memory.now c.loop-i.i c.loop-i-test.true room c.loop-i.invariant.1, c.loop-i.invariant.2)
 
-pub invariant-of-self-2 : goal.invariant-of-self-2
-invariant-of-self-2 c =
+pub invariant_of-self-2 : goal.invariant_of-self-2
+invariant_of-self-2 c =
     let a = c.args.self.now in
-    let l : lawful c.args.row ≡ true = sym c.is-lawful.ensures ∙ c.if-not-is-lawful.false in
-    let m = put_done a.memory.now c.to-bytes-bytes.result a.used c.args.row a.whole c.to-bytes-bytes.ensures.bytes c.loop-i.self.memory.now c.loop-i.i (omega arith) c.loop-i.invariant.1 in
-    let e = put-rows a.memory.now c.to-bytes-bytes.result a.used c.args.row a.whole c.to-bytes-bytes.ensures.bytes c.to-bytes-bytes.ensures.back l in
+    let l : lawful c.args.row ≡ true = sym c.is_lawful.ensures ∙ c.if-not-is_lawful.false in
+    let m = put_done a.memory.now c.to_bytes-bytes.result a.used c.args.row a.whole c.to_bytes-bytes.ensures.bytes c.loop-i.self.memory.now c.loop-i.i (omega arith) c.loop-i.invariant.1 in
+    let e = put-rows a.memory.now c.to_bytes-bytes.result a.used c.args.row a.whole c.to_bytes-bytes.ensures.bytes c.to_bytes-bytes.ensures.back l in
     let n = ap length e ∙ length_push _ c.args.row ∙ ap (λ n. n + 1) a.whole in
     (ap (λ u. length (rows_in (u + 1) c.loop-i.self.memory.now)) c.loop-i.invariant.0 ∙ ap (λ t. length (rows_in (a.used + 1) t)) m ∙ n ∙ ap (λ u. u + 1) (sym c.loop-i.invariant.0), (omega (arith, c.loop-i.invariant.0), tt))
 
 pub returns : goal.returns
 returns c =
     let a = c.args.self.now in
-    let l : lawful c.args.row ≡ true = sym c.is-lawful.ensures ∙ c.if-not-is-lawful.false in
-    let m = put_done a.memory.now c.to-bytes-bytes.result a.used c.args.row a.whole c.to-bytes-bytes.ensures.bytes c.loop-i.self.memory.now c.loop-i.i (omega arith) c.loop-i.invariant.1 in
-    let e = put-rows a.memory.now c.to-bytes-bytes.result a.used c.args.row a.whole c.to-bytes-bytes.ensures.bytes c.to-bytes-bytes.ensures.back l in
+    let l : lawful c.args.row ≡ true = sym c.is_lawful.ensures ∙ c.if-not-is_lawful.false in
+    let m = put_done a.memory.now c.to_bytes-bytes.result a.used c.args.row a.whole c.to_bytes-bytes.ensures.bytes c.loop-i.self.memory.now c.loop-i.i (omega arith) c.loop-i.invariant.1 in
+    let e = put-rows a.memory.now c.to_bytes-bytes.result a.used c.args.row a.whole c.to_bytes-bytes.ensures.bytes c.to_bytes-bytes.ensures.back l in
     let room = room_for a.memory.now a.used (omega arith) in
     let n : length c.loop-i.self.memory.now ≡ length a.memory.now = ap length m ∙ length-put a.memory.now a.used c.args.row room in
     let some : 0 < places (length a.memory.now) - a.used = omega arith in

@@ -10,8 +10,8 @@ returns-then-position-self c =
     let h : length (rows_in c.args.self.now.used c.args.self.now.memory.now) ≤ c.args.position = omega (arith, c.args.self.now.whole) in
     sym (slice_get_past (rows_in c.args.self.now.used c.args.self.now.memory.now) c.args.position h)
 
-pub slice-bounds-read-end : goal.slice-bounds-read-end
-slice-bounds-read-end c =
+pub slice_bounds-read-end : goal.slice_bounds-read-end
+slice_bounds-read-end c =
     omega (arith, whole-fits c.args.self.now.used c.args.self.now.memory.now c.args.self.now.whole)
 
 fifteen : (p : ℕ) → p * 15 + 15 - p * 15 ≡ 15

@@ -14,5 +14,5 @@ pub returns-then-sum-lt0 : goal.returns-then-sum-lt0
 returns-then-sum-lt0 c =
     let f = c.ranges.sum in
     let negative = simp to_z-of_z at c.if-sum-lt0.true in
-    let size = simp to_z-of_z at c.unsigned-abs.ensures.value in
-    grown_same _ _ _ _ _ _ (below_zero c.args.sum c.unsigned-abs.result negative size) (grown_then _ _ _ _ _ _ _ _ c.byte.ensures c.number.ensures)
+    let size = simp to_z-of_z at c.unsigned_abs.ensures.value in
+    grown_same _ _ _ _ _ _ (below_zero c.args.sum c.unsigned_abs.result negative size) (grown_then _ _ _ _ _ _ _ _ c.byte.ensures c.number.ensures)

@@ -7,16 +7,16 @@ use Rattle.archive.proofs.listing.text.Text.zone.Goals as goal
 pub amount-requires : goal.amount-requires
 amount-requires c =
     let f = c.ranges.sum in
-    simp to_z-of_z (omega (arith, c.zone-word.ensures.len, length-zone c.args.sum))
+    simp to_z-of_z (omega (arith, c.zone_word.ensures.len, length-zone c.args.sum))
 
 pub byte-requires : goal.byte-requires
 byte-requires c =
     let f = c.ranges.sum in
     let a = simp to_z-of_z at c.amount.ensures.len in
-    omega (arith, c.zone-word.ensures.len, a, length-zone c.args.sum)
+    omega (arith, c.zone_word.ensures.len, a, length-zone c.args.sum)
 
 pub returns : goal.returns
 returns c =
     let f = c.ranges.sum in
     let a = simp to_z-of_z at c.amount.ensures in
-    grown_then _ _ _ _ _ _ _ _ c.zone-word.ensures (grown_then _ _ _ _ _ _ _ _ a c.byte.ensures)
+    grown_then _ _ _ _ _ _ _ _ c.zone_word.ensures (grown_then _ _ _ _ _ _ _ _ a c.byte.ensures)

@@ -7,17 +7,17 @@ use Rattle.archive.proofs.Records.{test_push}
 use Rattle.archive.proofs.Putting.{accepting, appended_is}
 use Rattle.archive.proofs.table.meaning.TableArchiveArchive.append.Goals as goal
 
-pub invariant-of-self : goal.invariant-of-self
-invariant-of-self c =
+pub invariant_of-self : goal.invariant_of-self
+invariant_of-self c =
     let n : length c.args.self.now.records ≡ 512 = c.args.self.now.long in
-    let l : lawful c.args.row ≡ true = sym c.is-lawful.ensures ∙ c.if-not-is-lawful.false in
+    let l : lawful c.args.row ≡ true = sym c.is_lawful.ensures ∙ c.if-not-is_lawful.false in
     let b : c.args.self.now.used < length c.args.self.now.records = omega arith in
     (length-set _ _ _ ∙ n, (omega arith, (ap all_lawful (take_more_set c.args.self.now.records c.args.self.now.used c.args.row b) ∙ test_push _ c.args.row c.args.self.now.lawful l, tt)))
 
 pub returns : goal.returns
 returns c =
     let n : length c.args.self.now.records ≡ 512 = c.args.self.now.long in
-    let l : lawful c.args.row ≡ true = sym c.is-lawful.ensures ∙ c.if-not-is-lawful.false in
+    let l : lawful c.args.row ≡ true = sym c.is_lawful.ensures ∙ c.if-not-is_lawful.false in
     let b : c.args.self.now.used < length c.args.self.now.records = omega arith in
     let before = table_contents c.args.self.now in
     record { answer = sym (accepting before c.args.row l (omega arith)); after = appended_is before c.args.row _ _ l (omega arith) (take_more_set c.args.self.now.records c.args.self.now.used c.args.row b) (omega arith); memory = refl; lent = refl }
