@@ -39,10 +39,10 @@ fn check_rows(bytes: &[u8]) -> Result<(), Refusal>
 // Puts the rows of the bytes last.
 fn append_rows<A: Archive>(archive: &mut A, bytes: &[u8])
     requires read { all_read (length bytes.now / 15) 0 bytes.now ≡ Ok tt }
-    requires room { length bytes.now / 15 ≤ (meaning archive.old).free }
-    ensures after { meaning archive.new ≡ contents ((meaning archive.old).rows ++ rows_in (length bytes.now / 15) bytes.now) ((meaning archive.old).free - length bytes.now / 15) }
-    ensures memory { memory archive.new ≡ entered A.Archive.stamped (memory archive.old) (length (meaning archive.old).rows) (rows_in (length bytes.now / 15) bytes.now) }
-    ensures lent { lent archive.new ≡ lent archive.old }
+    requires room { length bytes.now / 15 ≤ (A.meaning archive.old).free }
+    ensures after { A.meaning archive.new ≡ contents ((A.meaning archive.old).rows ++ rows_in (length bytes.now / 15) bytes.now) ((A.meaning archive.old).free - length bytes.now / 15) }
+    ensures memory { A.memory archive.new ≡ entered A.Archive.stamped (A.memory archive.old) (length (A.meaning archive.old).rows) (rows_in (length bytes.now / 15) bytes.now) }
+    ensures lent { A.lent archive.new ≡ A.lent archive.old }
 {
     let mut rest = bytes;
     for _i in 0..bytes.len() / 15 {
@@ -57,10 +57,10 @@ fn append_rows<A: Archive>(archive: &mut A, bytes: &[u8])
 /// Reads the bytes and appends all their rows, or none, and answers how many: 30 for bytes that are not whole
 /// rows, then each row in turn (31, 32, at its offset), then 27 for more rows than free places.
 pub fn take_in<A: Archive>(archive: &mut A, bytes: &[u8]) -> Result<usize, Refusal>
-    ensures answer { result ≡ taking_in (meaning archive.old) bytes.now }
-    ensures after { meaning archive.new ≡ taken_in (meaning archive.old) bytes.now }
-    ensures memory { memory archive.new ≡ kept result (entered A.Archive.stamped (memory archive.old) (length (meaning archive.old).rows) (rows_in (length bytes.now / 15) bytes.now)) (memory archive.old) }
-    ensures lent { lent archive.new ≡ lent archive.old }
+    ensures answer { result ≡ taking_in (A.meaning archive.old) bytes.now }
+    ensures after { A.meaning archive.new ≡ taken_in (A.meaning archive.old) bytes.now }
+    ensures memory { A.memory archive.new ≡ kept result (entered A.Archive.stamped (A.memory archive.old) (length (A.meaning archive.old).rows) (rows_in (length bytes.now / 15) bytes.now)) (A.memory archive.old) }
+    ensures lent { A.lent archive.new ≡ A.lent archive.old }
     ensures again { TakenAgain }
 {
     if bytes.len() % 15 != 0 {

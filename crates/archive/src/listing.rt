@@ -59,9 +59,9 @@ fn write(text: &[u8], out: &mut [u8]) -> Result<usize, Refusal>
 /// `supplier sum` for each supplier whose rows do not add up to 0, and then `zone sum`. 10 for a day or hour out
 /// of range, then 33 where the text does not fit. No text is longer than 720 bytes.
 pub fn list<A: Archive>(archive: &A, day: u32, hour: u32, out: &mut [u8]) -> Result<usize, Refusal>
-    ensures answer { result ≡ listing day hour (meaning archive.now).rows (length out.old) }
+    ensures answer { result ≡ listing day hour (A.meaning archive.now).rows (length out.old) }
     ensures short { IfOk result (λ n. n ≤ 720) }
-    ensures written { out.new ≡ listed day hour (meaning archive.now).rows out.old }
+    ensures written { out.new ≡ listed day hour (A.meaning archive.now).rows out.old }
 {
     if !is_listable(day, hour) {
         return Err(Refusal {

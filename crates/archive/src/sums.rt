@@ -43,8 +43,8 @@ impl HourSums {
 /// All sums of an hour in one pass. The suppliers' sums add up to the zone's, and none overflows, since an archive
 /// has at most 1,000,000 rows of at most 3,000,000,000 units.
 pub fn hour_sums<A: Archive>(archive: &A, kind: Kind, day: u32, hour: u32) -> HourSums
-    ensures suppliers { result.suppliers ≡ sums_of kind day hour (meaning archive.now).rows }
-    ensures zone { result.zone ≡ hour_sum kind day hour (meaning archive.now).rows }
+    ensures suppliers { result.suppliers ≡ sums_of kind day hour (A.meaning archive.now).rows }
+    ensures zone { result.zone ≡ hour_sum kind day hour (A.meaning archive.now).rows }
     ensures small { Small result.suppliers result.zone }
     ensures adds { ZoneLaw }
 {

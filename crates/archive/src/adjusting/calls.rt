@@ -79,10 +79,10 @@ fn append_due<A: Archive>(archive: &mut A, slot: Slot, supplier: u8, amount: i64
     requires slot { lawful_slot slot ≡ true }
     requires supplier { (1 ≤ supplier) × (supplier ≤ 32) }
     requires amount { in_range amount ≡ true }
-    requires room { length (row_for slot supplier amount) ≤ (meaning archive.old).free }
-    ensures after { meaning archive.new ≡ with_rows (meaning archive.old) (row_for slot supplier amount) }
-    ensures memory { memory archive.new ≡ entered A.Archive.stamped (memory archive.old) (length (meaning archive.old).rows) (row_for slot supplier amount) }
-    ensures lent { lent archive.new ≡ lent archive.old }
+    requires room { length (row_for slot supplier amount) ≤ (A.meaning archive.old).free }
+    ensures after { A.meaning archive.new ≡ with_rows (A.meaning archive.old) (row_for slot supplier amount) }
+    ensures memory { A.memory archive.new ≡ entered A.Archive.stamped (A.memory archive.old) (length (A.meaning archive.old).rows) (row_for slot supplier amount) }
+    ensures lent { A.lent archive.new ≡ A.lent archive.old }
 {
     if amount == 0 {
         return;
@@ -101,10 +101,10 @@ fn append_due<A: Archive>(archive: &mut A, slot: Slot, supplier: u8, amount: i64
 fn append_dues<A: Archive>(archive: &mut A, slot: Slot, dues: &[i64; 32])
     requires slot { lawful_slot slot ≡ true }
     requires amounts { all_in_range (λ s. get_or dues.now (s - 1) (pos 0)) 32 ≡ true }
-    requires room { length (rows_for slot (λ s. get_or dues.now (s - 1) (pos 0)) 32) ≤ (meaning archive.old).free }
-    ensures after { meaning archive.new ≡ with_rows (meaning archive.old) (rows_for slot (λ s. get_or dues.now (s - 1) (pos 0)) 32) }
-    ensures memory { memory archive.new ≡ entered A.Archive.stamped (memory archive.old) (length (meaning archive.old).rows) (rows_for slot (λ s. get_or dues.now (s - 1) (pos 0)) 32) }
-    ensures lent { lent archive.new ≡ lent archive.old }
+    requires room { length (rows_for slot (λ s. get_or dues.now (s - 1) (pos 0)) 32) ≤ (A.meaning archive.old).free }
+    ensures after { A.meaning archive.new ≡ with_rows (A.meaning archive.old) (rows_for slot (λ s. get_or dues.now (s - 1) (pos 0)) 32) }
+    ensures memory { A.memory archive.new ≡ entered A.Archive.stamped (A.memory archive.old) (length (A.meaning archive.old).rows) (rows_for slot (λ s. get_or dues.now (s - 1) (pos 0)) 32) }
+    ensures lent { A.lent archive.new ≡ A.lent archive.old }
 {
     for i in 0..32 {
         append_due(archive, slot, i as u8 + 1, dues[i]);
@@ -115,10 +115,10 @@ fn append_dues<A: Archive>(archive: &mut A, slot: Slot, dues: &[i64; 32])
 /// hour, unless that is 0, and answers how many rows these are: all or none. 32 for an unlawful slot, then 26 for an
 /// amount that no row holds, then 27 for more rows than free places.
 pub fn adjust<A: Archive>(archive: &mut A, slot: Slot, wanted: &[u64; 32]) -> Result<usize, Refusal>
-    ensures answer { result ≡ adjusting (meaning archive.old) slot wanted.now }
-    ensures after { meaning archive.new ≡ adjusted (meaning archive.old) slot wanted.now }
-    ensures memory { memory archive.new ≡ kept result (entered A.Archive.stamped (memory archive.old) (length (meaning archive.old).rows) (lacking slot wanted.now (meaning archive.old).rows)) (memory archive.old) }
-    ensures lent { lent archive.new ≡ lent archive.old }
+    ensures answer { result ≡ adjusting (A.meaning archive.old) slot wanted.now }
+    ensures after { A.meaning archive.new ≡ adjusted (A.meaning archive.old) slot wanted.now }
+    ensures memory { A.memory archive.new ≡ kept result (entered A.Archive.stamped (A.memory archive.old) (length (A.meaning archive.old).rows) (lacking slot wanted.now (A.meaning archive.old).rows)) (A.memory archive.old) }
+    ensures lent { A.lent archive.new ≡ A.lent archive.old }
     ensures law { AdjustingLaw }
 {
     if !slot.is_lawful() {

@@ -16,7 +16,7 @@ invariant_of-self c =
     let a = c.args.self.now in
     let room = room_for a.memory.now a.used (omega arith) in
     let s = put_step a.memory.now c.to_bytes-bytes.result a.used c.args.row a.whole c.to_bytes-bytes.ensures.bytes c.loop-i.self.memory.now c.loop-i.i c.loop-i-test.true room c.loop-i.invariant.1 in
-    (put_whole a.memory.now c.to_bytes-bytes.result a.used c.args.row a.whole c.to_bytes-bytes.ensures.bytes _ (c.loop-i.i + 1) c.loop-i.self.used c.loop-i.invariant.0 s, (c.loop-i.self.few, tt))
+    record { whole = put_whole a.memory.now c.to_bytes-bytes.result a.used c.args.row a.whole c.to_bytes-bytes.ensures.bytes _ (c.loop-i.i + 1) c.loop-i.self.used c.loop-i.invariant.0 s; few = c.loop-i.self.few }
 
 pub loop-i-preserved : goal.loop-i-preserved
 loop-i-preserved c =
@@ -31,7 +31,7 @@ invariant_of-self-2 c =
     let m = put_done a.memory.now c.to_bytes-bytes.result a.used c.args.row a.whole c.to_bytes-bytes.ensures.bytes c.loop-i.self.memory.now c.loop-i.i (omega arith) c.loop-i.invariant.1 in
     let e = put-rows a.memory.now c.to_bytes-bytes.result a.used c.args.row a.whole c.to_bytes-bytes.ensures.bytes c.to_bytes-bytes.ensures.back l in
     let n = ap length e ∙ length_push _ c.args.row ∙ ap (λ n. n + 1) a.whole in
-    (ap (λ u. length (rows_in (u + 1) c.loop-i.self.memory.now)) c.loop-i.invariant.0 ∙ ap (λ t. length (rows_in (a.used + 1) t)) m ∙ n ∙ ap (λ u. u + 1) (sym c.loop-i.invariant.0), (omega (arith, c.loop-i.invariant.0), tt))
+    record { whole = ap (λ u. length (rows_in (u + 1) c.loop-i.self.memory.now)) c.loop-i.invariant.0 ∙ ap (λ t. length (rows_in (a.used + 1) t)) m ∙ n ∙ ap (λ u. u + 1) (sym c.loop-i.invariant.0); few = omega (arith, c.loop-i.invariant.0) }
 
 pub returns : goal.returns
 returns c =

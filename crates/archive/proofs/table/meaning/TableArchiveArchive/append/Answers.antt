@@ -12,7 +12,7 @@ invariant_of-self c =
     let n : length c.args.self.now.records ≡ 512 = c.args.self.now.long in
     let l : lawful c.args.row ≡ true = sym c.is_lawful.ensures ∙ c.if-not-is_lawful.false in
     let b : c.args.self.now.used < length c.args.self.now.records = omega arith in
-    (length-set _ _ _ ∙ n, (omega arith, (ap all_lawful (take_more_set c.args.self.now.records c.args.self.now.used c.args.row b) ∙ test_push _ c.args.row c.args.self.now.lawful l, tt)))
+    record { long = length-set _ _ _ ∙ n; few = omega arith; lawful = ap all_lawful (take_more_set c.args.self.now.records c.args.self.now.used c.args.row b) ∙ test_push _ c.args.row c.args.self.now.lawful l }
 
 pub returns : goal.returns
 returns c =
