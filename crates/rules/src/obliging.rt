@@ -20,12 +20,12 @@ fn add_to(sums: &mut [u64; 32], supplier: u8, share: u64)
 
 /// Serves each line from both pots, and sums the shares by supplier.
 fn sum_all<L: Weighted>(mut first: Pot, mut second: Pot, lines: &[L], suppliers: &[u8]) -> [u64; 32]
-    requires first { first ≡ pot_at first.total (sum_by in_first lines.now) 0 }
-    requires second { second ≡ pot_at second.total (sum_by in_second lines.now) 0 }
+    requires first { first ≡ pot_at first.total (sum_by L.in_first lines.now) 0 }
+    requires second { second ≡ pot_at second.total (sum_by L.in_second lines.now) 0 }
     requires totals { (first.total ≤ most) × (second.total ≤ most) }
-    requires wholes { sum_by in_first lines.now + sum_by in_second lines.now ≤ most }
+    requires wholes { sum_by L.in_first lines.now + sum_by L.in_second lines.now ≤ most }
     requires room { length lines.now ≤ length suppliers.now }
-    ensures { result ≡ obligations suppliers.now (finals first.total second.total (map in_first lines.now) (map in_second lines.now)) }
+    ensures { result ≡ obligations suppliers.now (finals first.total second.total (map L.in_first lines.now) (map L.in_second lines.now)) }
 {
     let mut sums = [0; 32];
     for (i, line) in lines.iter().enumerate() {
@@ -44,7 +44,7 @@ pub fn obligations<L: Weighted>(
     lines: &[L],
     suppliers: &[u8],
 ) -> Result<[u64; 32], Refusal>
-    ensures answer { result ≡ obliging first second (map in_first lines.now) (map in_second lines.now) suppliers.now }
+    ensures answer { result ≡ obliging first second (map L.in_first lines.now) (map L.in_second lines.now) suppliers.now }
     ensures law { ObligationsAddUp }
 {
     let (first_pot, second_pot) = pots(first, second, lines, suppliers.len())?;

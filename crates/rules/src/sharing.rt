@@ -77,7 +77,7 @@ impl Pot {
 
 /// The weights of the two groups; refused if together they are above the most.
 pub fn weigh<L: Weighted>(lines: &[L]) -> Result<(u64, u64), Refusal>
-    ensures { result ≡ weighed (map in_first lines.now) (map in_second lines.now) }
+    ensures { result ≡ weighed (map L.in_first lines.now) (map L.in_second lines.now) }
 {
     let mut first: u64 = 0;
     let mut second: u64 = 0;
@@ -99,7 +99,7 @@ pub(crate) fn pots<L: Weighted>(
     lines: &[L],
     places: usize,
 ) -> Result<(Pot, Pot), Refusal>
-    ensures { result ≡ unless_refused (sharing first second (map in_first lines.now) (map in_second lines.now) places) (pots_of first second (map in_first lines.now) (map in_second lines.now)) }
+    ensures { result ≡ unless_refused (sharing first second (map L.in_first lines.now) (map L.in_second lines.now) places) (pots_of first second (map L.in_first lines.now) (map L.in_second lines.now)) }
 {
     if first > MOST || second > MOST {
         return Err(OUT_OF_RANGE);
@@ -113,12 +113,12 @@ pub(crate) fn pots<L: Weighted>(
 
 /// Serves each line from both pots. A line has weight in one group, and its share of the other total is 0.
 fn serve_all<L: Weighted>(mut first: Pot, mut second: Pot, lines: &[L], list: &mut [L::Unit])
-    requires first { first ≡ pot_at first.total (sum_by in_first lines.now) 0 }
-    requires second { second ≡ pot_at second.total (sum_by in_second lines.now) 0 }
+    requires first { first ≡ pot_at first.total (sum_by L.in_first lines.now) 0 }
+    requires second { second ≡ pot_at second.total (sum_by L.in_second lines.now) 0 }
     requires totals { (first.total ≤ most) × (second.total ≤ most) }
-    requires wholes { sum_by in_first lines.now + sum_by in_second lines.now ≤ most }
+    requires wholes { sum_by L.in_first lines.now + sum_by L.in_second lines.now ≤ most }
     requires room { length lines.now ≤ length list.old }
-    ensures { list.new ≡ map amounts (finals first.total second.total (map in_first lines.now) (map in_second lines.now)) ++ drop (length lines.now) list.old }
+    ensures { list.new ≡ map L.amounts (finals first.total second.total (map L.in_first lines.now) (map L.in_second lines.now)) ++ drop (length lines.now) list.old }
 {
     for (i, line) in lines.iter().enumerate() {
         let (w, v) = line.weights();
@@ -134,8 +134,8 @@ pub fn share<L: Weighted>(
     lines: &[L],
     list: &mut [L::Unit],
 ) -> Result<(), Refusal>
-    ensures answer { result ≡ sharing first second (map in_first lines.now) (map in_second lines.now) (length list.old) }
-    ensures written { list.new ≡ shared amounts first second (map in_first lines.now) (map in_second lines.now) list.old }
+    ensures answer { result ≡ sharing first second (map L.in_first lines.now) (map L.in_second lines.now) (length list.old) }
+    ensures written { list.new ≡ shared L.amounts first second (map L.in_first lines.now) (map L.in_second lines.now) list.old }
     ensures laws { SharingLaws }
 {
     let (first_pot, second_pot) = pots(first, second, lines, list.len())?;

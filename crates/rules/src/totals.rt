@@ -61,7 +61,7 @@ pub fn group_totals<A: Arrangement>(
     interval: u64,
     profiled: u64,
 ) -> Result<(u64, u64), Refusal>
-    ensures answer { result ≡ group_totals (meaning arrangement.now) zone interval profiled }
+    ensures answer { result ≡ group_totals (A.meaning arrangement.now) zone interval profiled }
     ensures whole { IfOk result (λ t. t.0 + t.1 ≡ zone) }
 {
     if zone > MOST {

@@ -35,16 +35,16 @@ loop-figure-preserved c =
     elim c.if-has.branch [
       | then-has w ↦
           let passes = sym w.if-has.ensures in (
-            omega (arith, w.total_is, w.load-total.ensures, sum-kept_more (is_present b) xs i h f passes),
+            omega (arith, w.total-is, w.load-total.ensures, sum-kept_more (is_present b) xs i h f passes),
             omega (arith, w.number-is, number_kept_more (is_present b) xs i h passes),
-            omega (arith, w.total_is, w.load-total.ensures, small),
+            omega (arith, w.total-is, w.load-total.ensures, small),
             omega (arith, w.number-is),
           )
       | else-has w ↦
           let same = kept_same (is_present b) xs i h (sym w.if-has.ensures) in (
-            w.total_is ∙ c.loop-figure.invariant.0 ∙ sym (ap (sum_by f) same),
+            w.total-is ∙ c.loop-figure.invariant.0 ∙ sym (ap (sum_by f) same),
             w.number-is ∙ c.loop-figure.invariant.1 ∙ sym (ap length same),
-            omega (arith, w.total_is),
+            omega (arith, w.total-is),
             omega (arith, w.number-is),
           )
     ]
