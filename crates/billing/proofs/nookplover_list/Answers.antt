@@ -11,12 +11,12 @@ returns-in-Ok c =
     let memory = c.args.memory.now in
     let new = c.new-archive in
     let f : SFits w64 c.answer.result = search rules in
-    let small : (i : ℕ) → get_or rows i 0 < 256 = λ i. omega (arith, c.type-inv.rows i) in
-    let held : c.take-in.new.archive.memory.now ≡ host_memory rows memory = c.take-in.ensures.memory ∙ memory_is rows memory (byte_contents new.result) new.result.memory.now c.take-in.result new.ensures.meaning new.ensures.memory c.take-in.ensures.answer small in
+    let small : (i : ℕ) → get_or rows i 0 < 256 = λ i. omega (arith, c.type_inv.rows i) in
+    let held : c.take_in.new.archive.memory.now ≡ host_memory rows memory = c.take_in.ensures.memory ∙ memory_is rows memory (byte_contents new.result) new.result.memory.now c.take_in.result new.ensures.meaning new.ensures.memory c.take_in.ensures.answer small in
     record {
-      answer = simp to_z-of_z (c.answer.ensures ∙ answer_listed rows memory (byte_contents new.result) new.result.memory.now c.take-in.result new.ensures.meaning new.ensures.memory c.take-in.ensures.answer c.args.day c.args.hour c.args.output.now c.in-Ok.field-0 c.in-Ok.is _ c.take-in.ensures.after c.list.result c.list.ensures.answer);
+      answer = simp to_z-of_z (c.answer.ensures ∙ answer_listed rows memory (byte_contents new.result) new.result.memory.now c.take_in.result new.ensures.meaning new.ensures.memory c.take_in.ensures.answer c.args.day c.args.hour c.args.output.now c.in-Ok.field-0 c.in-Ok.is _ c.take_in.ensures.after c.list.result c.list.ensures.answer);
       memory = search rules;
-      output = c.list.ensures.written ∙ output_listed rows memory (byte_contents new.result) new.result.memory.now c.take-in.result new.ensures.meaning new.ensures.memory c.take-in.ensures.answer c.args.day c.args.hour c.args.output.now c.in-Ok.field-0 c.in-Ok.is _ c.take-in.ensures.after;
+      output = c.list.ensures.written ∙ output_listed rows memory (byte_contents new.result) new.result.memory.now c.take_in.result new.ensures.meaning new.ensures.memory c.take_in.ensures.answer c.args.day c.args.hour c.args.output.now c.in-Ok.field-0 c.in-Ok.is _ c.take_in.ensures.after;
     }
 
 pub returns-in-Err : goal.returns-in-Err
@@ -25,10 +25,10 @@ returns-in-Err c =
     let memory = c.args.memory.now in
     let new = c.new-archive in
     let f : SFits w64 c.refused.result = search rules in
-    let small : (i : ℕ) → get_or rows i 0 < 256 = λ i. omega (arith, c.type-inv.rows i) in
-    let held : c.take-in.new.archive.memory.now ≡ host_memory rows memory = c.take-in.ensures.memory ∙ memory_is rows memory (byte_contents new.result) new.result.memory.now c.take-in.result new.ensures.meaning new.ensures.memory c.take-in.ensures.answer small in
+    let small : (i : ℕ) → get_or rows i 0 < 256 = λ i. omega (arith, c.type_inv.rows i) in
+    let held : c.take_in.new.archive.memory.now ≡ host_memory rows memory = c.take_in.ensures.memory ∙ memory_is rows memory (byte_contents new.result) new.result.memory.now c.take_in.result new.ensures.meaning new.ensures.memory c.take_in.ensures.answer small in
     record {
-      answer = simp to_z-of_z (c.refused.ensures ∙ answer_refused rows memory (byte_contents new.result) new.result.memory.now c.take-in.result new.ensures.meaning new.ensures.memory c.take-in.ensures.answer c.args.day c.args.hour c.args.output.now c.in-Err.refusal c.in-Err.is);
+      answer = simp to_z-of_z (c.refused.ensures ∙ answer_refused rows memory (byte_contents new.result) new.result.memory.now c.take_in.result new.ensures.meaning new.ensures.memory c.take_in.ensures.answer c.args.day c.args.hour c.args.output.now c.in-Err.refusal c.in-Err.is);
       memory = search rules;
-      output = output_refused rows memory (byte_contents new.result) new.result.memory.now c.take-in.result new.ensures.meaning new.ensures.memory c.take-in.ensures.answer c.args.day c.args.hour c.args.output.now c.in-Err.refusal c.in-Err.is;
+      output = output_refused rows memory (byte_contents new.result) new.result.memory.now c.take_in.result new.ensures.meaning new.ensures.memory c.take_in.ensures.answer c.args.day c.args.hour c.args.output.now c.in-Err.refusal c.in-Err.is;
     }

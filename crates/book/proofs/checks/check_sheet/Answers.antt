@@ -11,6 +11,6 @@ returns g c =
     let old = c.args.table.now in
     let table = c.suppliers.new.table in
     record {
-      answer = c.check-lines.ensures ∙ sheet_checked (λ x. sheet_line (g.L.Accounted.account_of x) (g.L.Checked.cause_in x)) c.args.day entries lines old table c.requires (omega arith) c.suppliers.ensures.after;
-      told = sheet-told (λ x. sheet_line (g.L.Accounted.account_of x) (g.L.Checked.cause_in x)) c.args.day entries lines old table c.requires (omega arith) c.suppliers.ensures.after c.check-lines.result c.check-lines.ensures;
+      answer = c.check_lines.ensures ∙ sheet_checked (λ x. sheet_line (g.L.Accounted.account_of x) (g.L.Checked.cause_in x)) c.args.day entries lines old table c.requires (omega arith) c.suppliers.ensures.after;
+      told = sheet-told (λ x. sheet_line (g.L.Accounted.account_of x) (g.L.Checked.cause_in x)) c.args.day entries lines old table c.requires (omega arith) c.suppliers.ensures.after c.check_lines.result c.check_lines.ensures;
     }

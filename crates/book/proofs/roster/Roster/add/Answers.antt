@@ -6,8 +6,8 @@ use Rattle.book.proofs.roster.Roster.add.Goals as goal
 pub bounds-self-self : goal.bounds-self-self
 bounds-self-self c = (place_parts c.args.self.now.count c.args.self.now.memory.now c.args.self.now.held c.requires).1
 
-pub invariant-of-self : goal.invariant-of-self
-invariant-of-self c =
+pub invariant_of-self : goal.invariant_of-self
+invariant_of-self c =
     let n = c.args.self.now.count in
     let memory = c.args.self.now.memory.now in
     let place = place_parts n memory c.args.self.now.held c.requires in

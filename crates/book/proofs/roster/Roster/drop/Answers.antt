@@ -11,13 +11,13 @@ pub returns : goal.returns
 returns c =
     let roll = roll_of c.args.self.now in
     let opened = c.args.book.now.last_opened in
-    let ok = c.in-ok-admit.ensures in
-    let last = c.last-entry-last.ensures in
-    let served : is_served c.args.account roll ≡ true = ap not (ne_eqb _ 0 (λ e. omega (arith, c.supplier-in.ensures, ap supplier_in last, e))) in
-    let answer : c.add-after.result ≡ dropping opened roll c.args.account c.args.from-day =
-    one_passes roll (are_dated c.args.account c.args.from-day) (is_served c.args.account roll) NotServed _ c.add-after.result
-    (sym c.are-dated.ensures ∙ ok.0) ok.1 served (c.add-after.ensures.answer ∙ ap (λ l. timing opened l c.args.from-day) last) in
+    let ok = c.in_ok-admit.ensures in
+    let last = c.last_entry-last.ensures in
+    let served : is_served c.args.account roll ≡ true = ap not (ne_eqb _ 0 (λ e. omega (arith, c.supplier_in.ensures, ap supplier_in last, e))) in
+    let answer : c.add_after.result ≡ dropping opened roll c.args.account c.args.from_day =
+    one_passes roll (are_dated c.args.account c.args.from_day) (is_served c.args.account roll) NotServed _ c.add_after.result
+    (sym c.are_dated.ensures ∙ ok.0) ok.1 served (c.add_after.ensures.answer ∙ ap (λ l. timing opened l c.args.from_day) last) in
     record {
       answer = answer;
-      after = left_by c.add-after.result _ roll _ (entry c.args.account c.args.from-day 0) answer c.add-after.ensures.after;
+      after = left_by c.add_after.result _ roll _ (entry c.args.account c.args.from_day 0) answer c.add_after.ensures.after;
     }

@@ -3,7 +3,7 @@ use Rattle.std.proofs.lemmas.List.{length-map}
 use Rattle.book.specs.Entries.{entry}
 use Rattle.book.proofs.Tables.{table_begins, place_within, written_at, passed_absent, passed_late}
 use Rattle.book.proofs.roster.Roster.enter_suppliers.Goals as goal
-use Rattle.book.proofs.roster.Roster.enter_suppliers.Goals.{then-entry-day+in-Some, then-entry-day+in-default, else-entry-day}
+use Rattle.book.proofs.roster.Roster.enter_suppliers.Goals.{then-entry-day+in-Some, then-entry-day+in_default, else-entry-day}
 
 pub loop-i-init : goal.loop-i-init
 loop-i-init g c =
@@ -27,11 +27,11 @@ loop-i-preserved g c =
     let within : n ≤ length all = omega (arith, c.requires.within, length-map c.args.lines.now g.L.Accounted.account_of) in
     elim c.if-entry-day.branch [
       | then-entry-day+in-Some w ↦
-          written_at c.args.day n i w.in-Some.place w.supplier-in.result es all rest c.loop-i.table c.if-entry-day.table none
-          lt within w.if-entry-day.true c.requires.rises w.in-Some.ensures.0 w.in-Some.ensures.1 w.supplier-in.ensures w.table-is c.loop-i.invariant
-      | then-entry-day+in-default w ↦
+          written_at c.args.day n i w.in-Some.place w.supplier_in.result es all rest c.loop-i.table c.if-entry-day.table none
+          lt within w.if-entry-day.true c.requires.rises w.in-Some.ensures.0 w.in-Some.ensures.1 w.supplier_in.ensures w.table-is c.loop-i.invariant
+      | then-entry-day+in_default w ↦
           passed_absent c.args.day n i es all rest c.loop-i.table c.if-entry-day.table none
-          lt within w.in-default.ensures w.table-is c.loop-i.invariant
+          lt within w.in_default.ensures w.table-is c.loop-i.invariant
       | else-entry-day w ↦
           passed_late c.args.day n i es all rest c.loop-i.table c.if-entry-day.table none
           lt w.if-entry-day.false w.table-is c.loop-i.invariant

@@ -6,6 +6,6 @@ use Rattle.book.proofs.roster.Roster.supplier_on.Goals as goal
 pub returns : goal.returns
 returns c =
     record {
-      answer = c.if-anybody.ensures ∙ ap somebody (c.supplier-in.ensures ∙ ap supplier_in c.last-entry.ensures);
+      answer = c.if_anybody.ensures ∙ ap somebody (c.supplier_in.ensures ∙ ap supplier_in c.last_entry.ensures);
       last = last_decides;
     }

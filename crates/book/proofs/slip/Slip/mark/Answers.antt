@@ -3,8 +3,8 @@ use lib.Bits.{bit_or}
 use Rattle.book.proofs.Marks.{mark_is, marked_within, marks_one}
 use Rattle.book.proofs.slip.Slip.mark.Goals as goal
 
-pub invariant-of-self : goal.invariant-of-self
-invariant-of-self g c =
+pub invariant_of-self : goal.invariant_of-self
+invariant_of-self g c =
     let s = c.args.self.now in
     let P : ℕ → Type 0 = λ m. bit_or s.settled m < 2 ^ s.hours in
     let short = marked_within s.settled s.hours c.args.hour s.within c.requires.begun c.requires.within in
