@@ -50,7 +50,7 @@ fn line_cause(cause: Option<Cause>, above: bool, supplier: u8) -> Option<Cause>
 /// Each line in turn, with its supplier.
 fn check_lines<L: Accounted + Checked>(lines: &[L], suppliers: &[u8]) -> Result<(), Refusal>
     requires { length lines.now ≤ length suppliers.now }
-    ensures { result ≡ checked_lines (map (λ l. sheet_line (account_of l) (cause_in l)) lines.now) suppliers.now }
+    ensures { result ≡ checked_lines (map (λ l. sheet_line (L.account_of l) (L.cause_in l)) lines.now) suppliers.now }
 {
     let mut before = None;
     for (i, line) in lines.iter().enumerate() {
@@ -77,8 +77,8 @@ pub(crate) fn check_sheet<L: Accounted + Checked>(
     table: &mut [u8],
 ) -> Result<(), Refusal>
     requires { length lines.now ≤ length table.old }
-    ensures answer { result ≡ checked_lines (map (λ l. sheet_line (account_of l) (cause_in l)) lines.now) (suppliers_on day (roll_of roster.now).entries (map account_of lines.now)) }
-    ensures told { OnOk result (take (length lines.now) table.new ≡ suppliers_on day (roll_of roster.now).entries (map account_of lines.now)) }
+    ensures answer { result ≡ checked_lines (map (λ l. sheet_line (L.account_of l) (L.cause_in l)) lines.now) (suppliers_on day (roll_of roster.now).entries (map L.account_of lines.now)) }
+    ensures told { OnOk result (take (length lines.now) table.new ≡ suppliers_on day (roll_of roster.now).entries (map L.account_of lines.now)) }
 {
     roster.suppliers(lines, day, table);
     check_lines(lines, table)

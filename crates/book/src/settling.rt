@@ -53,7 +53,7 @@ fn sheet_totals<R: Arrangement>(
     sheet: &[Line],
 ) -> Result<(u64, u64), Refusal>
     requires { zone_load ≤ most }
-    ensures { result ≡ group_totals (meaning arrangement.now) zone_load (sum (map interval_weight sheet.now)) (sum (map profiled_weight sheet.now)) }
+    ensures { result ≡ group_totals (R.meaning arrangement.now) zone_load (sum (map interval_weight sheet.now)) (sum (map profiled_weight sheet.now)) }
 {
     let (interval, profiled) = weigh(sheet)?;
     group_totals(arrangement, zone_load, interval, profiled)
@@ -87,7 +87,7 @@ fn hour_owed<const STAGE: u8, R: Arrangement>(
     arrangement: &R,
     places: usize,
 ) -> Result<Owed, Refusal>
-    ensures { result ≡ owed (admitted (hour_of (meaning arrangement.now) (slip_of slip.now) hour zone_load sheet.now (roll_of roster.now).entries) places) (owed_in (hour_of (meaning arrangement.now) (slip_of slip.now) hour zone_load sheet.now (roll_of roster.now).entries)) }
+    ensures { result ≡ owed (admitted (hour_of (R.meaning arrangement.now) (slip_of slip.now) hour zone_load sheet.now (roll_of roster.now).entries) places) (owed_in (hour_of (R.meaning arrangement.now) (slip_of slip.now) hour zone_load sheet.now (roll_of roster.now).entries)) }
 {
     if !is_in_order(slip.hours(), hour, zone_load, sheet.len()) {
         return Err(refused(Cause::OutOfRange));

@@ -24,7 +24,7 @@ pub(crate) fn is_above(account: u32, before: Option<u32>) -> bool
 
 /// How many lines stand before the first whose account is not above that of the line before it.
 pub(crate) fn rising_front<L: Accounted>(lines: &[L]) -> usize
-    ensures { result ≡ rising_front (map account_of lines.now) }
+    ensures { result ≡ rising_front (map L.account_of lines.now) }
 {
     let mut before = None;
     for (i, line) in lines.iter().enumerate() {
@@ -40,8 +40,8 @@ pub(crate) fn rising_front<L: Accounted>(lines: &[L]) -> usize
 /// Where an account stands among the first `n` lines, whose accounts rise.
 pub(crate) fn place_of<L: Accounted>(lines: &[L], n: usize, account: u32) -> Option<usize>
     requires within { n ≤ length lines.now }
-    requires rises { Rising (take n (map account_of lines.now)) }
-    ensures { MatchOption result ((k : ℕ) → k < n → slice_index (map account_of lines.now) k ≢ account) (λ k. (k < n) × (slice_index (map account_of lines.now) k ≡ account)) }
+    requires rises { Rising (take n (map L.account_of lines.now)) }
+    ensures { MatchOption result ((k : ℕ) → k < n → slice_index (map L.account_of lines.now) k ≢ account) (λ k. (k < n) × (slice_index (map L.account_of lines.now) k ≡ account)) }
 {
     let mut low = 0;
     let mut high = n;

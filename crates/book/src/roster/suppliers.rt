@@ -22,8 +22,8 @@ impl<'a> Roster<'a> {
     /// Writes the supplier of each line's account on a day into the table, 0 for nobody: for the lines before the first
     /// whose account is not above that of the line before it, as far as the table reaches. Answers how many these are.
     pub fn suppliers<L: Accounted>(&self, lines: &[L], day: u32, table: &mut [u8]) -> usize
-        ensures answer { result ≡ lines_told (map account_of lines.now) table.old }
-        ensures after { table.new ≡ table_on day (roll_of self.now).entries (map account_of lines.now) table.old }
+        ensures answer { result ≡ lines_told (map L.account_of lines.now) table.old }
+        ensures after { table.new ≡ table_on day (roll_of self.now).entries (map L.account_of lines.now) table.old }
     {
         let n = rising_front(lines).min(table.len());
         clear(table, n);
@@ -34,9 +34,9 @@ impl<'a> Roster<'a> {
     /// The same for the first `n` lines, which rise, in a table whose first `n` places are clear.
     fn enter_suppliers<L: Accounted>(&self, lines: &[L], n: usize, day: u32, table: &mut [u8])
         requires within { n ≤ length lines.now }
-        requires rises { Rising (take n (map account_of lines.now)) }
+        requires rises { Rising (take n (map L.account_of lines.now)) }
         requires clear { take n table.old ≡ replicate n 0 }
-        ensures { table.new ≡ suppliers_on day (roll_of self.now).entries (take n (map account_of lines.now)) ++ drop n table.old }
+        ensures { table.new ≡ suppliers_on day (roll_of self.now).entries (take n (map L.account_of lines.now)) ++ drop n table.old }
     {
         for i in 0..self.count {
             let entry = self.memory[i];

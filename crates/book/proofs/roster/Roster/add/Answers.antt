@@ -11,7 +11,7 @@ invariant_of-self c =
     let n = c.args.self.now.count in
     let memory = c.args.self.now.memory.now in
     let place = place_parts n memory c.args.self.now.held c.requires in
-    (omega (arith, place.1, length-set memory n c.args.entry), (omega (arith, place.0), tt))
+    record { held = omega (arith, place.1, length-set memory n c.args.entry); few = omega (arith, place.0) }
 
 pub returns : goal.returns
 returns c =

@@ -8,7 +8,7 @@ invariant_of-self g c =
     let s = c.args.self.now in
     let P : ℕ → Type 0 = λ m. bit_or s.settled m < 2 ^ s.hours in
     let short = marked_within s.settled s.hours c.args.hour s.within c.requires.begun c.requires.within in
-    (s.first, (s.last, (s.begun, (s.dated, (s.long, (s.short, (subst P (sym (mark_is c.args.hour (omega arith))) short, tt)))))))
+    record { first = s.first; last = s.last; begun = s.begun; dated = s.dated; long = s.long; short = s.short; within = subst P (sym (mark_is c.args.hour (omega arith))) short }
 
 pub returns : goal.returns
 returns g c =
