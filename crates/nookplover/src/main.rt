@@ -7,6 +7,7 @@ use journal::{Journal, Unreadable, read_journal};
 use run::{Days, run};
 use std::alloc::AllocError;
 use std::io::Read;
+use std::process::ExitCode;
 use std::{env, fmt, fs, io};
 
 mod call;
@@ -159,12 +160,13 @@ fn program(rt: &HostRuntime) -> Result<(), Failure> {
     }
 }
 
-fn main(rt: HostRuntime) -> Result<(), Failure> {
+// A failure is told in one line of its own, so `main` answers a status and no error.
+fn main(rt: HostRuntime) -> ExitCode {
     match program(&rt) {
-        Ok(()) => Ok(()),
+        Ok(()) => ExitCode::SUCCESS,
         Err(failure) => {
             let _ = eprintln!(rt; "{failure}");
-            Err(failure)
+            ExitCode::FAILURE
         }
     }
 }

@@ -7,6 +7,6 @@ returns c =
     let rows = decimal c.args.rows ++ codes " rows, " in
     let free = decimal c.args.free ++ codes " free, " in
     let entries = decimal c.args.entries ++ (codes " entries" ++ 10 ∷ []) in
-    put_two (vec_items c.args.out.now) (codes "end: ") (rows ++ (free ++ entries)) c.in-ok-extend-from-slice.ensures.items
-    (put_two (vec_items c.extend-from-slice.new.self) rows (free ++ entries) c.in-ok-put-count.ensures
-    (put_two (vec_items c.put-count.new.out) free entries c.in-ok-put-count-2.ensures c.in-ok-put-count-3.ensures))
+    put_two (vec_items c.args.out.now) (codes "end: ") (rows ++ (free ++ entries)) c.in_ok-extend_from_slice.ensures.items
+    (put_two (vec_items c.extend_from_slice.new.self) rows (free ++ entries) c.in_ok-put_count.ensures
+    (put_two (vec_items c.put_count.new.out) free entries c.in_ok-put_count-2.ensures c.in_ok-put_count-3.ensures))

@@ -8,6 +8,6 @@ pub returns : goal.returns
 returns c =
     let words : ℕ → ℕ → List ℕ = λ n l. worded (codes "refused") (n ∷ l ∷ c.args.refusal.place ∷ []) in
     let a = vec_items c.args.out.now in
-    put_two a (words c.number-number.result c.number-layer.result) (10 ∷ []) c.in-ok-put-words.ensures c.in-ok-push.ensures.items
+    put_two a (words c.number-number.result c.number-layer.result) (10 ∷ []) c.in_ok-put_words.ensures c.in_ok-push.ensures.items
     ∙ ap (λ n. a ++ (words n c.number-layer.result ++ 10 ∷ [])) c.number-number.ensures
     ∙ ap (λ l. a ++ (words (number_of c.args.refusal.cause) l ++ 10 ∷ [])) c.number-layer.ensures

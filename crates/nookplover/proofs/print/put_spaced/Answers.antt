@@ -4,4 +4,4 @@ use Rattle.nookplover.proofs.print.put_spaced.Goals as goal
 
 pub returns : goal.returns
 returns c =
-    put_two (vec_items c.args.out.now) (32 ∷ []) (decimal c.args.n) c.in-ok-push.ensures.items c.in-ok-put-number.ensures
+    put_two (vec_items c.args.out.now) (32 ∷ []) (decimal c.args.n) c.in_ok-push.ensures.items c.in_ok-put_number.ensures

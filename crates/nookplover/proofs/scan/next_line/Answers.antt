@@ -7,5 +7,5 @@ returns-then-length-text c =
     let whole = sym c.span-length.ensures.count ∙ c.if-length-text.true in
     record {
       front = last_line c.args.text.now whole;
-      rest = c.split-at.ensures.back ∙ after_last_line c.args.text.now c.span-length.result c.if-length-text.true whole;
+      rest = c.split_at.ensures.back ∙ after_last_line c.args.text.now c.span-length.result c.if-length-text.true whole;
     }
