@@ -1,7 +1,6 @@
 -- Rows of what is due, appended one after another.
-use Rattle.std.proofs.Common.{◌≡◌, ℕ, ◌+◌, ◌-◌, ◌<◌, ◌≤◌, true, cond, List, [], ◌∷◌, ◌++◌, length, ℤ, pos, Ok, Err, Result, sym, refl, ap, ◌∙◌, arith}
+use Rattle.std.proofs.Common.{◌≡◌, ℕ, ◌+◌, ◌-◌, ◌<◌, ◌≤◌, true, List, [], ◌∷◌, ◌++◌, length, ℤ, pos, Result, sym, ap, ◌∙◌, arith}
 use Rattle.std.proofs.lemmas.List.{append_assoc, append-nil, length-append}
-use Rattle.std.proofs.lemmas.Bool.{le-leb, lt-leb}
 use Rattle.refusals.specs.declared.Refusal.{Refusal}
 use Rattle.rows.specs.declared.Row.{Row}
 use Rattle.archive.specs.declared.adjusting.Slot.{Slot}
@@ -9,7 +8,7 @@ use Rattle.archive.specs.Contents.{Contents, contents, appending, appended, kept
 use Rattle.archive.specs.Intake.{entered}
 use Rattle.archive.specs.Adjusting.{lawful_slot, in_range, row_in, row_for, rows_for, with_rows}
 use Rattle.archive.proofs.Putting.{accepting}
-use Rattle.archive.proofs.Dues.{row_for-none, row_for_one, rows_for-none, rows_for_more, lawful_due}
+use Rattle.archive.proofs.Dues.{row_for_one, rows_for-none, rows_for_more, lawful_due}
 
 pub with_rows-none : (c : Contents) → c ≡ with_rows c []
 with_rows-none c = let f : c.free ≡ c.free - 0 = omega arith in ap (λ t. contents t c.free) (sym (append-nil c.rows)) ∙ ap (contents (c.rows ++ [])) f

@@ -1,5 +1,5 @@
 -- Bytes that take-in accepts are the bytes of the rows taken from them.
-use Rattle.std.proofs.Common.{◌≡◌, ℕ, zero, suc, ◌+◌, ◌*◌, ◌/◌, ◌%◌, ◌<◌, ◌≤◌, Bool, true, false, cond, eqb, leb, List, [], ◌∷◌, ◌++◌, length, get_or, take, drop, Ok, Err, Result, sym, refl, ap, ◌∙◌, subst, suc-mul, arith}
+use Rattle.std.proofs.Common.{◌≡◌, ℕ, zero, suc, ◌+◌, ◌*◌, ◌/◌, ◌%◌, ◌<◌, ◌≤◌, Bool, true, false, cond, eqb, leb, List, [], ◌++◌, length, get_or, take, drop, Ok, Err, Result, sym, refl, ap, ◌∙◌, suc-mul, arith}
 use Rattle.std.specs.List.{flat_map}
 use Rattle.std.proofs.lemmas.List.{length-drop, get_or-drop, nil_from_length}
 use Rattle.std.proofs.lemmas.Bool.{eqb-true, leb-true}
@@ -12,7 +12,7 @@ use Rattle.rows.proofs.Found.{writes_back}
 use Rattle.rows.proofs.Fronts.{reading_front}
 use Rattle.archive.specs.Contents.{Contents, contents, refusing}
 use Rattle.archive.specs.Packed.{then_rows, rows_in, places, put}
-use Rattle.archive.specs.Intake.{then_read, all_read, if_room, then_room, taking_in, entered, TakenAgain}
+use Rattle.archive.specs.Intake.{then_read, all_read, then_room, taking_in, entered, TakenAgain}
 use Rattle.archive.proofs.Entering.{entered_is}
 
 first_again : (x : Result Row Fault) (n at : ℕ) (bs : List ℕ) → ((i : ℕ) → get_or bs i 0 < 256) → reading bs ≡ x → then_read x at (all_read n (at + 15) (drop 15 bs)) ≡ Ok tt → (all_read n (at + 15) (drop 15 bs) ≡ Ok tt → flat_map bytes_of (rows_in n (drop 15 bs)) ≡ drop 15 bs) → flat_map bytes_of (then_rows x (rows_in n (drop 15 bs))) ≡ bs

@@ -9,7 +9,7 @@ use Rattle.rows.specs.declared.Kind.{Kind}
 use Rattle.rows.specs.declared.Kind.TheVariants.{Energy, Peak}
 use Rattle.archive.specs.declared.adjusting.Slot.{Slot}
 use Rattle.archive.specs.Sums.{same_kind, in_hour, portion, sum_of}
-use Rattle.archive.specs.Adjusting.{row_in, row_for, rows_for, wanted_by, due_to, lacking, Brought, AdjustingLaw}
+use Rattle.archive.specs.Adjusting.{row_in, row_for, rows_for, wanted_by, due_to, AdjustingLaw}
 use Rattle.archive.proofs.Totals.{total_push}
 use Rattle.archive.proofs.Portions.{portion_in, portion_out, portion_other}
 use Rattle.archive.proofs.Dues.{cases_zero, row_for-none, row_for_one, rows_for-none, rows_for_more}

@@ -1,9 +1,8 @@
 -- The lines of a listing, and how long they are.
-use Rattle.std.proofs.Common.{◌≡◌, ℕ, zero, suc, ◌+◌, ◌*◌, ◌^◌, ◌<◌, ◌≤◌, List, [], ◌∷◌, ◌++◌, length, get_or, take, ℤ, pos, negsuc, nat_abs, decimal, sym, refl, ap, ◌∙◌, add_assoc, arith, w64, of_z}
-use lib.Signed.{mag}
+use Rattle.std.proofs.Common.{◌≡◌, ℕ, zero, suc, ◌+◌, ◌<◌, ◌≤◌, List, [], ◌∷◌, ◌++◌, length, get_or, take, ℤ, pos, negsuc, nat_abs, decimal, sym, refl, ap, ◌∙◌, arith, w64, of_z}
 use Rattle.std.specs.Fmt.{signed_decimal}
 use Rattle.std.proofs.lemmas.Fmt.{length-decimal-le, length_signed_le}
-use Rattle.std.proofs.lemmas.List.{length-append, append_assoc, append-nil, take_more, take_all, length-take-le}
+use Rattle.std.proofs.lemmas.List.{length-append, append_assoc, append-nil, take_more, length-take-le}
 use Rattle.archive.specs.Listing.{supplier_line, supplier_lines, zone_line}
 
 pub line_is : (s : ℕ) (z : ℤ) → (of_z w64 z ≡ 0 → ⊥) → supplier_line s z ≡ decimal s ++ (32 ∷ (signed_decimal z ++ 10 ∷ []))

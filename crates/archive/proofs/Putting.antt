@@ -1,10 +1,10 @@
 -- A row put into memory byte by byte.
-use Rattle.std.proofs.Common.{◌≡◌, ℕ, suc, ◌+◌, ◌-◌, ◌*◌, ◌<◌, ◌≤◌, true, cond, eqb, List, [], ◌∷◌, ◌++◌, length, get_or, take, drop, set, Ok, Err, sym, refl, ap, ◌∙◌, add-one, arith}
+use Rattle.std.proofs.Common.{◌≡◌, ℕ, ◌+◌, ◌-◌, ◌*◌, ◌<◌, ◌≤◌, cond, eqb, List, [], ◌∷◌, ◌++◌, length, get_or, take, drop, set, Ok, Err, sym, ap, ◌∙◌, add-one, arith}
 use Rattle.std.proofs.lemmas.List.{append_assoc, append-nil, length-take, length-drop, length-append, length-take-le, set-append_right, drop_more, take_more, take-append-drop, take_all}
 use Rattle.std.proofs.lemmas.Bool.{ne_eqb}
 use Rattle.refusals.specs.declared.Cause.TheVariants.{ArchiveFull, UnlawfulRow}
 use Rattle.rows.specs.declared.Row.{Row}
-use Rattle.rows.specs.Lawful.{lawful, Lawful}
+use Rattle.rows.specs.Lawful.{Lawful}
 use Rattle.rows.specs.Format.{reading, bytes_of, ReadsBack}
 use Rattle.rows.proofs.Written.{length-bytes_of}
 use Rattle.archive.specs.Contents.{Contents, contents, refusing, appending, appended, kept}

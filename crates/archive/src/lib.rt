@@ -1,4 +1,6 @@
 //! The archive: rows that are added and never rewritten, in any memory, and what is read off them.
+#![tactic(auto)]
+
 ghost use Rattle.std.specs.Prelude.{◌≡◌, ℕ, ◌+◌, ◌≤◌, List, length};
 ghost use Rattle.std.specs.List.{slice_get, AllByRecursion as All};
 ghost use Rattle.rows.specs.declared.Row.{Row as RowT};

@@ -1,5 +1,7 @@
 //! Rows and archives on examples written by hand: the bytes of rows, rows at the ends of their ranges, take-in,
 //! full archives, listings.
+#![tactic(auto)]
+
 #[cfg(test)]
 mod tests {
     use archive::Archive;
@@ -180,7 +182,7 @@ mod tests {
         assert_eq!(rt; bytes.append(peak(1, 0, 0, 1, 1)), Ok(()));
         assert_eq!(rt; told(bytes.append(peak(1, 0, 0, 1, 1))), (27, 4, 0));
         assert_eq!(rt; bytes.count(), 4);
-        assert_eq!(rt; &memory[60..74], &[9; 14]);
+        assert_eq!(rt; &memory[60..74], [9; 14].as_slice());
         let mut records = TableArchive::new();
         takes_in(&rt, &mut records);
         lists(&rt, &records);

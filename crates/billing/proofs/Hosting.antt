@@ -1,8 +1,8 @@
 -- The host's answer, memory and output, from what take-in and the listing promise.
-use Rattle.std.proofs.Common.{◌≡◌, ℕ, ◌-◌, ◌/◌, ◌<◌, List, [], ◌++◌, length, get_or, drop, ℤ, Ok, Err, Result, sym, refl, ap, ◌∙◌}
+use Rattle.std.proofs.Common.{◌≡◌, ℕ, ◌-◌, ◌/◌, ◌<◌, List, [], ◌++◌, length, get_or, drop, Ok, Err, Result, sym, refl, ap, ◌∙◌}
 use Rattle.refusals.specs.declared.Refusal.{Refusal}
 use Rattle.archive.specs.Contents.{Contents, contents, kept}
-use Rattle.archive.specs.Packed.{rows_in, places, put}
+use Rattle.archive.specs.Packed.{places, put}
 use Rattle.archive.specs.Intake.{taking_in, taken_in, entered}
 use Rattle.archive.specs.Listing.{listing, listed}
 use Rattle.archive.proofs.Again.{taken_to_front}

@@ -3,7 +3,7 @@ use Rattle.std.specs.Prelude.{ℕ, ◌/◌, List, [], ◌++◌, length, drop, �
 use Rattle.refusals.specs.declared.Refusal.{Refusal}
 use Rattle.refusals.specs.Numbers.{number_of}
 use Rattle.rows.specs.declared.Row.{Row}
-use Rattle.archive.specs.Contents.{Contents, contents, kept}
+use Rattle.archive.specs.Contents.{contents, kept}
 use Rattle.archive.specs.Packed.{rows_in, places}
 use Rattle.archive.specs.Intake.{taking_in}
 use Rattle.archive.specs.Listing.{listing, listed}

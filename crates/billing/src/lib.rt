@@ -1,4 +1,6 @@
 //! The listing for the billing host, a C program: `include/nookplover.h` declares it.
+#![tactic(auto)]
+
 ghost use Rattle.std.specs.Prelude.{◌≡◌, ◌≤◌, length, IfOk};
 ghost use Rattle.billing.specs.Host.{negated, answered, host_answer, host_memory, host_output};
 

@@ -1,5 +1,5 @@
 -- Once an hour is settled its rows add up to what they stand for.
-use Rattle.std.proofs.Common.{◌≡◌, ℕ, ◌+◌, ◌<◌, ◌≤◌, true, cond, ◌⊎◌, List, [], ◌∷◌, ◌++◌, map, length, get_or, ℤ, pos, IfOk, Some, None, Ok, Err, sum, Option, Result, sym, refl, ap, ◌∙◌, subst, inl, inr, ⊎_elim, arith}
+use Rattle.std.proofs.Common.{◌≡◌, ℕ, ◌<◌, ◌≤◌, ◌⊎◌, List, [], ◌∷◌, ◌++◌, map, length, get_or, pos, IfOk, Some, None, Ok, Err, sum, Option, Result, sym, refl, ap, ◌∙◌, subst, inl, inr, ⊎_elim, arith}
 use Rattle.std.specs.List.{range_with_len, AllByRecursion as All}
 use Rattle.std.proofs.ByRecursion.{All-append}
 use Rattle.std.proofs.lemmas.List.{length-map, get_or-map, get_or_default}
@@ -9,7 +9,7 @@ use Rattle.rows.specs.declared.Row.{Row}
 use Rattle.rows.specs.declared.Kind.TheVariants.{Energy}
 use Rattle.rows.specs.Lawful.{Lawful}
 use Rattle.archive.specs.Contents.{Contents, kept}
-use Rattle.archive.specs.Sums.{sum_of, hour_sum, up_to}
+use Rattle.archive.specs.Sums.{sum_of}
 use Rattle.archive.specs.Adjusting.{due_to, booking, with_rows}
 use Rattle.archive.proofs.Adjusted.{booking-small}
 use Rattle.archive.proofs.Bringing.{adjusting_law}
@@ -18,7 +18,7 @@ use Rattle.archive.proofs.Totals.{up_to_same, up_to_pos}
 use Rattle.archive.proofs.Zoning.{zone_law}
 use Rattle.rules.specs.declared.lines.Line.{Line}
 use Rattle.rules.specs.declared.lines.Line.TheVariants.{Interval, Profiled}
-use Rattle.rules.specs.Lines.{account_of, load_of, interval_weight, profiled_weight}
+use Rattle.rules.specs.Lines.{account_of, interval_weight, profiled_weight}
 use Rattle.rules.specs.Shares.{Near, shares, finals}
 use Rattle.rules.specs.Obligations.{obligation, obligations}
 use Rattle.rules.proofs.Settled.{finals-whole}
@@ -29,7 +29,7 @@ use Rattle.book.specs.declared.settling.Owed.{Owed}
 use Rattle.book.specs.Ranges.{is_supplier}
 use Rattle.book.specs.Entries.{last_entry, supplier_in, supplier_on}
 use Rattle.book.specs.Settling.{Hour, line_in, served_in, interval_loads, profiled_loads, totals_in, or_zero, final_loads, owed_in, slot_in, next, rows_in, admitted, owed, settling, settled_archive}
-use Rattle.book.specs.Settled.{group_total, group_load, NearIn, Settled, Whole, LawfulSlip, SettlingLaw}
+use Rattle.book.specs.Settled.{NearIn, Settled, Whole, LawfulSlip, SettlingLaw}
 use Rattle.book.proofs.Admitting.{Admitted, admitted-hour}
 use Rattle.book.proofs.Checking.{all_served}
 use Rattle.book.proofs.Settlement.{order_parts, slot_lawful}

@@ -1,18 +1,16 @@
 -- An hour that is admitted: its rows, its list and its slip.
-use Rattle.std.proofs.Common.{◌≡◌, ℕ, ◌+◌, ◌≤◌, Bool, true, cond, ◌&&◌, leb, List, ◌++◌, map, length, drop, Ok, Err, sum, Result, sym, refl, ap, ◌∙◌, arith}
+use Rattle.std.proofs.Common.{◌≡◌, ℕ, ◌+◌, ◌≤◌, true, ◌&&◌, leb, List, ◌++◌, map, length, drop, Ok, sum, Result, sym, refl, ap, ◌∙◌, arith}
 use Rattle.std.proofs.lemmas.List.{length-map}
 use Rattle.std.proofs.lemmas.Bool.{and_from, and_parts, le-leb, leb-true}
 use Rattle.refusals.specs.declared.Refusal.{Refusal}
-use Rattle.rows.specs.declared.Row.{Row}
 use Rattle.archive.specs.declared.adjusting.Slot.{Slot}
 use Rattle.archive.specs.Contents.{Contents, kept}
-use Rattle.archive.specs.Intake.{entered}
 use Rattle.archive.specs.Adjusting.{lawful_slot, lacking, with_rows, booking, adjusting, adjusted}
 use Rattle.archive.proofs.Adjusted.{adjusting_is}
 use Rattle.rules.specs.declared.units.Energy.{Energy}
 use Rattle.rules.specs.Ranges.{most}
 use Rattle.rules.specs.Lines.{interval_weight, energy}
-use Rattle.rules.specs.Shares.{finals, sharing, shared, if_shared}
+use Rattle.rules.specs.Shares.{finals, shared, if_shared}
 use Rattle.book.specs.declared.settling.Owed.{Owed}
 use Rattle.book.specs.Ranges.{between}
 use Rattle.book.specs.Settling.{Hour, in_order, interval_loads, profiled_loads, or_zero, final_loads, owed_in, slot_in, next, rows_in, settling, settled_archive, settled_list}

@@ -1,4 +1,6 @@
 //! The state that a settlement meets: the roster of suppliers, the book of days, and the slips of opened days.
+#![tactic(auto)]
+
 mod checks;
 mod opening;
 mod ranges;

@@ -1,4 +1,6 @@
 //! Prints the published worked example as the rules give it: loads, parts, final loads, peak weights and contributions.
+#![tactic(auto)]
+
 use refusals::Refusal;
 use rules::{
     Arrangement, Energy, Line, PeakLine, Percent, Power, ProRata, group_totals, share, weigh,

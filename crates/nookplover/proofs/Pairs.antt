@@ -1,6 +1,5 @@
 -- Bytes read from pairs of digits.
 use Rattle.std.proofs.Common.{◌≡◌, ℕ, ◌<◌, ◌≤◌, List, [], ◌∷◌, ◌++◌, length, get_or, drop, Some, None, Option, sym, refl, ap, ◌∙◌, append_assoc, arith}
-use Rattle.std.proofs.lemmas.List.{drop_more}
 use Rattle.nookplover.specs.Numerals.{byte_pair, then_bytes, bytes_in}
 
 -- bytes before those that were read

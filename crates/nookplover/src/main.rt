@@ -1,4 +1,6 @@
 //! `nookplover`: reads a journal of calls, makes each, and prints what it did.
+#![tactic(auto)]
+
 use archive::bytes::ByteArchive;
 use archive::table::TableArchive;
 use book::{Entry, Roster};

@@ -1,4 +1,6 @@
 //! Why a call was refused, and where: one vocabulary for every crate above the row format.
+#![tactic(auto)]
+
 ghost use Rattle.std.specs.Prelude.{◌≡◌};
 ghost use Rattle.refusals.specs.Numbers.{number_of, layer_number};
 

@@ -1,5 +1,5 @@
 -- What a lawful row is known to have, and what makes one unlawful.
-use Rattle.std.proofs.Common.{◌≡◌, ℕ, ◌≤◌, Bool, true, false, ◌&&◌, leb, ℤ, nat_abs, arith, w64, SFits}
+use Rattle.std.proofs.Common.{◌≡◌, ℕ, ◌≤◌, true, false, leb, ℤ, nat_abs, arith, w64, SFits}
 use Rattle.std.proofs.lemmas.Bool.{and_parts, and_left, and_right, leb-true}
 use Rattle.std.proofs.lemmas.Bool.Decides.{nat_tests}
 use Rattle.rows.specs.declared.Row.{Row}

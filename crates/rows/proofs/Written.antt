@@ -1,5 +1,5 @@
 -- What was written is read back.
-use Rattle.std.proofs.Common.{◌≡◌, ℕ, ◌/◌, ◌%◌, ◌^◌, ◌<◌, ◌≤◌, true, false, cond, ltb, List, [], ◌∷◌, ◌++◌, length, get_or, ℤ, Some, Ok, Err, sym, refl, ap, ◌∙◌, arith, w64, SFits, to_z, of_z}
+use Rattle.std.proofs.Common.{◌≡◌, ℕ, ◌/◌, ◌%◌, ◌≤◌, false, ltb, List, [], ◌++◌, length, get_or, ℤ, Some, Ok, Err, refl, ap, ◌∙◌, arith, w64, SFits, to_z, of_z}
 use mir.Facts.{Fits-of_z}
 use Rattle.std.proofs.lemmas.List.{length-append}
 use Rattle.std.proofs.lemmas.Int.{to_z-of_z}
@@ -9,7 +9,7 @@ use Rattle.rows.specs.declared.Fault.TheVariants.{Short, Field}
 use Rattle.rows.specs.declared.Kind.{Kind}
 use Rattle.rows.specs.declared.Kind.TheVariants.{Energy, Peak}
 use Rattle.rows.specs.Lawful.{lawful}
-use Rattle.rows.specs.Format.{mark_bytes, bytes_of, eight_bytes, eight, fields_of, kind_of, if_lawful, marked, reading, ReadsBack}
+use Rattle.rows.specs.Format.{bytes_of, eight, fields_of, kind_of, if_lawful, marked, reading, ReadsBack}
 use Rattle.rows.proofs.Digits.{eight-back, two_back}
 use Rattle.rows.proofs.Lawfully.{lawful_ranges, bookable-fits}
 

@@ -1,5 +1,7 @@
 //! The row format: what one row of the archive says, when it is lawful, and its fifteen bytes.
 //! This crate stands below all others and relies on none of them.
+#![tactic(auto)]
+
 ghost use Rattle.std.specs.Prelude.{◌≡◌, drop, Ok, Err};
 ghost use Rattle.rows.specs.Lawful.{between, bookable, timely, lawful};
 ghost use Rattle.rows.specs.Format.{mark_bytes, kind_of, bytes_of, reading, fault_number, ReadsBack, WritesBack};

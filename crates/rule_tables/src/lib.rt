@@ -1,5 +1,7 @@
 //! Tables at the ends of every range: what lines meet by themselves, what they weigh, how they share, and what
 //! the arrangements part.
+#![tactic(auto)]
+
 #[cfg(test)]
 mod tests {
     use refusals::{Cause, Refusal};

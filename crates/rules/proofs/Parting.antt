@@ -1,5 +1,5 @@
 -- What the laws of an arrangement give the totals of the groups. Assumes nothing.
-use Rattle.std.proofs.Common.{◌≡◌, ℕ, ◌+◌, ◌≤◌, Bool, ◌||◌, leb, ℤ, pos, negsuc, ◌+ℤ◌, nat_abs, IfOk, Err, Result, sym, ap, ◌∙◌, arith, w64, to_z, of_z}
+use Rattle.std.proofs.Common.{◌≡◌, ℕ, ◌+◌, ◌≤◌, ◌||◌, ℤ, pos, negsuc, ◌+ℤ◌, nat_abs, IfOk, Err, Result, ap, ◌∙◌, arith, w64, to_z, of_z}
 use Rattle.std.proofs.lemmas.Int.{ints}
 use Rattle.std.proofs.lemmas.Bool.{cond-true, cond_both, le-leb}
 use Rattle.refusals.specs.declared.Refusal.{Refusal}

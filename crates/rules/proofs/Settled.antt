@@ -1,10 +1,10 @@
 -- What totals that are not refused tell, and that the lines then receive the whole zone load. Assumes nothing.
-use Rattle.std.proofs.Common.{◌≡◌, ℕ, ◌+◌, ◌<◌, ◌≤◌, Bool, true, false, ◌&&◌, ◌||◌, eqb, leb, ◌⊎◌, List, length, ℤ, pos, negsuc, ◌+ℤ◌, nat_abs, Ok, Err, sum, Result, sym, ap, ◌∙◌, inl, inr, arith}
+use Rattle.std.proofs.Common.{◌≡◌, ℕ, ◌+◌, ◌≤◌, false, ◌||◌, eqb, leb, List, length, ℤ, pos, negsuc, ◌+ℤ◌, Ok, Err, sum, Result, sym, ap, ◌∙◌, inl, inr, arith}
 use Rattle.std.proofs.lemmas.Int.{ints}
 use Rattle.std.proofs.lemmas.Bool.{cond_both, leb-true, leb-false, eq-eqb, both_ways, and_cases, or_parts, cases_lt}
 use Rattle.refusals.specs.declared.Refusal.{Refusal}
-use Rattle.refusals.specs.declared.Cause.TheVariants.{OutOfRange, LoadsTooHigh, UnloadedGroup}
-use Rattle.refusals.specs.declared.Layer.TheVariants.{Sheet, Sharing}
+use Rattle.refusals.specs.declared.Cause.TheVariants.{LoadsTooHigh, UnloadedGroup}
+use Rattle.refusals.specs.declared.Layer.TheVariants.{Sharing}
 use Rattle.refusals.specs.Numbers.{refusal}
 use Rattle.rules.specs.Ranges.{most}
 use Rattle.rules.specs.Parts.{unaccounted}

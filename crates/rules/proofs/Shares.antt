@@ -4,7 +4,7 @@ use native.Mathlib.Nat.{zero-div, div-zero, lt-div-mul-add, mul-sub}
 use Rattle.std.proofs.lemmas.List.Sums.{sum_by-cons}
 use Rattle.std.proofs.lemmas.Nat.{le-div, mul-le}
 use Rattle.rules.specs.Ranges.{most}
-use Rattle.rules.specs.Shares.{up_to, shares_after, shares, plus, finals, Near, SharesAddUp, SharesAreNear, OwnGroupOnly, FinalsAddUp, OneGroup, SharingLaws}
+use Rattle.rules.specs.Shares.{up_to, shares_after, shares, plus, Near, SharesAddUp, SharesAreNear, OwnGroupOnly, FinalsAddUp, OneGroup, SharingLaws}
 
 -- more weight, no smaller part
 pub up_to_rises : (g w c x : ℕ) → up_to g w c ≤ up_to g w (c + x)

@@ -1,5 +1,5 @@
 -- When the weights of a sheet, and with them its sharing, are refused. Assumes nothing.
-use Rattle.std.proofs.Common.{◌≡◌, ℕ, ◌+◌, ◌<◌, ◌≤◌, Bool, true, false, cond, ◌&&◌, leb, ◌⊎◌, List, ◌++◌, map, length, drop, Ok, Err, sum_by, sum, Result, sym, refl, ap, ◌∙◌, inl, inr, arith}
+use Rattle.std.proofs.Common.{◌≡◌, ℕ, ◌+◌, ◌<◌, ◌≤◌, true, cond, ◌&&◌, leb, ◌⊎◌, List, ◌++◌, map, length, drop, Ok, Err, sum_by, sum, Result, sym, refl, ap, ◌∙◌, inl, inr, arith}
 use Rattle.std.proofs.lemmas.List.Sums.{sum-map}
 use Rattle.std.proofs.lemmas.Bool.{cond-true, cond-false, cond_both, le-leb, lt-leb, leb-true, and_parts, and_from, and_left, and_right}
 use Rattle.refusals.specs.declared.Refusal.{Refusal}

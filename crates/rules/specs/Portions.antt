@@ -1,6 +1,6 @@
 -- The laws of a portion rounded toward zero. Assumes nothing.
-use Rattle.std.specs.Prelude.{◌≡◌, ℕ, zero, suc, ◌+◌, ◌*◌, ◌/◌, ◌<◌, ◌≤◌, Bool, true, false, cond, ℤ, pos, negsuc, ◌+ℤ◌, ◌-ℤ◌, ◌*ℤ◌, neg_ℤ, ◌≤ℤ◌, FitsSigned, int_div, unsigned_abs, refl}
-use Rattle.std.proofs.Common.{sym, ap, ◌∙◌, mul_comm, mul-le-mul_left, arith, to_z, of_z}
+use Rattle.std.specs.Prelude.{◌≡◌, ℕ, zero, suc, ◌*◌, ◌/◌, ◌≤◌, ℤ, pos, negsuc, ◌+ℤ◌, ◌-ℤ◌, ◌*ℤ◌, neg_ℤ, FitsSigned, int_div, unsigned_abs, refl}
+use Rattle.std.proofs.Common.{mul_comm, mul-le-mul_left, arith, to_z, of_z}
 use Rattle.std.proofs.Math.Nat.{zero-div, div-le_of_le-mul}
 use Rattle.std.specs.Int.{w64}
 use Rattle.std.proofs.lemmas.Nat.{mul-le}

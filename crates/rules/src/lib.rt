@@ -1,5 +1,7 @@
 //! The arithmetic of settlement: units, lines and their loads, sharing, and the arrangements by which
 //! unaccounted energy is parted.
+#![tactic(auto)]
+
 pub mod arrangements;
 pub mod lines;
 mod loads;

@@ -1,4 +1,6 @@
 //! A new zone's own split of unaccounted energy: what an arrangement made outside `rules` has to show.
+#![tactic(auto)]
+
 ghost use Rattle.zone_split.specs.Split.{interval_first};
 ghost use Rattle.std.proofs.Common.{rules};
 

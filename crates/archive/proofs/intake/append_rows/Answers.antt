@@ -1,4 +1,4 @@
-use Rattle.std.proofs.Common.{◌≡◌, ℕ, ◌+◌, ◌/◌, List, length, sym, refl, ◌∙◌, subst, arith}
+use Rattle.std.proofs.Common.{ℕ, ◌+◌, ◌/◌, List, length, sym, refl, ◌∙◌, subst, arith}
 use Rattle.archive.proofs.Reading.{read_fault}
 use Rattle.archive.proofs.Taking.{Taken, taken_none, taken_good, taken_more, taken_all}
 use Rattle.archive.proofs.intake.append_rows.Goals as goal

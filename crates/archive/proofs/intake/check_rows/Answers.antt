@@ -1,4 +1,4 @@
-use Rattle.std.proofs.Common.{◌≡◌, ◌+◌, ◌-◌, ◌*◌, ◌/◌, length, Err, sym, ap, ◌∙◌, arith}
+use Rattle.std.proofs.Common.{◌+◌, ◌-◌, ◌*◌, ◌/◌, length, Err, sym, ap, ◌∙◌}
 use Rattle.archive.specs.Intake.{all_read}
 use Rattle.archive.proofs.Reading.{rest_more, read_more, read_fault}
 use Rattle.archive.proofs.intake.check_rows.Goals as goal

@@ -1,4 +1,4 @@
-use Rattle.std.proofs.Common.{◌≡◌, length, sym, refl, ap, ◌∙◌, arith}
+use Rattle.std.proofs.Common.{length, sym, refl, ap, ◌∙◌, arith}
 use Rattle.archive.specs.Listing.{hour_text}
 use Rattle.archive.proofs.Listed.{not_listable, text_written, listed_by, text_is, short_text}
 use Rattle.archive.proofs.listing.list.Goals as goal

@@ -1,7 +1,7 @@
-use Rattle.std.proofs.Common.{◌≡◌, ℕ, ◌+◌, ◌<◌, ◌≤◌, [], length, get_or, take, pos, sym, refl, ap, ◌∙◌, arith, w64, SFits, rules}
+use Rattle.std.proofs.Common.{◌+◌, ◌≤◌, length, get_or, take, pos, sym, ap, ◌∙◌, arith, w64, SFits, rules}
 use Rattle.std.proofs.lemmas.List.{take_all}
 use Rattle.std.proofs.lemmas.Int.{to_z-of_z}
-use Rattle.archive.specs.Listing.{supplier_line, supplier_lines, zone_line, text_of}
+use Rattle.archive.specs.Listing.{supplier_lines, zone_line}
 use Rattle.archive.proofs.Growing.{grown_then, grown_same}
 use Rattle.archive.proofs.Lines.{lines_more, length_line_le, length-zone, length_signed_small}
 use Rattle.archive.proofs.listing.text_of.Goals as goal

@@ -1,4 +1,4 @@
-use Rattle.std.proofs.Common.{sym, refl, ◌∙◌, arith}
+use Rattle.std.proofs.Common.{refl, ◌∙◌, arith}
 use Rattle.book.specs.Checks.{sheet_line}
 use Rattle.book.proofs.Checking.{check_stops, check_goes_on, check_ends}
 use Rattle.book.proofs.checks.check_lines.Goals as goal

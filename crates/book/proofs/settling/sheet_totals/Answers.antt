@@ -1,4 +1,4 @@
-use Rattle.std.proofs.Common.{◌≡◌, map, Err, sum, sym, ap, ◌∙◌}
+use Rattle.std.proofs.Common.{map, Err, sum, ap, ◌∙◌}
 use Rattle.std.proofs.lemmas.Result.{err_from_is_err_and}
 use Rattle.rules.specs.Lines.{interval_weight, profiled_weight}
 use Rattle.rules.specs.Totals.{group_totals}

@@ -1,4 +1,4 @@
-use Rattle.std.proofs.Common.{drop, vec_items, sym, ap, ◌∙◌, arith}
+use Rattle.std.proofs.Common.{drop, vec_items, sym, ap, ◌∙◌}
 use Rattle.nookplover.specs.Numerals.{bytes_in}
 use Rattle.nookplover.proofs.Pairs.{prepended, one_byte}
 use Rattle.nookplover.proofs.scan.bytes_in.Goals as goal

@@ -1,4 +1,3 @@
-use Rattle.std.proofs.Common.{arith}
 use Rattle.rules.specs.Portions.{fits, computed, computed-small}
 use Rattle.rules.proofs.arrangements.portion_of.Goals as goal
 

@@ -1,4 +1,4 @@
-use Rattle.std.proofs.Common.{◌≡◌, ◌+◌, ◌-◌, ◌<◌, ◌≤◌, [], ◌∷◌, ◌++◌, map, length, get_or, take, sum_by, sym, refl, ap, ◌∙◌, arith}
+use Rattle.std.proofs.Common.{◌≡◌, ◌+◌, ◌-◌, [], ◌∷◌, ◌++◌, map, length, get_or, take, sum_by, sym, refl, ap, ◌∙◌, arith}
 use Rattle.rules.specs.Shares.{shares, plus}
 use Rattle.rules.specs.Obligations.{obligations}
 use Rattle.rules.proofs.Serving.{front, length_front, sum_front_le, weight_more, weight_within, front_more, front_all, pot_ready, pot_after, pot_share}

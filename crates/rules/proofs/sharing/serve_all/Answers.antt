@@ -1,4 +1,4 @@
-use Rattle.std.proofs.Common.{◌≡◌, ◌+◌, ◌-◌, ◌<◌, ◌≤◌, ◌++◌, map, length, take, drop, set, sum_by, sym, ap, ◌∙◌, arith}
+use Rattle.std.proofs.Common.{◌≡◌, ◌+◌, ◌++◌, map, length, take, drop, set, sum_by, ap, ◌∙◌, arith}
 use Rattle.rules.specs.Shares.{shares, plus, finals}
 use Rattle.rules.proofs.Serving.{front, length_front, weight_more, weight_within, front_more, front_all, turn, pot_ready, pot_after, pot_share}
 use Rattle.rules.proofs.sharing.serve_all.Goals as goal

@@ -1,4 +1,4 @@
-use Rattle.std.proofs.Common.{◌≡◌, length, Ok, sym, refl, ap, ◌∙◌, arith}
+use Rattle.std.proofs.Common.{length, Ok, sym, refl, ap, ◌∙◌, arith}
 use Rattle.archive.specs.Intake.{entered}
 use Rattle.archive.specs.Adjusting.{due_to, with_rows}
 use Rattle.archive.proofs.Adjusted.{lacks_is, unlawful_slot, too_large, no_place, all_placed, adjusted_by, found_rows, found_small, due_small}

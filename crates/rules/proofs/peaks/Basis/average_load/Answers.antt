@@ -1,7 +1,6 @@
-use Rattle.std.proofs.Common.{◌≡◌, ◌/◌, ◌≤◌, length, get_or, sum_by, sym, ap, ◌∙◌, arith}
+use Rattle.std.proofs.Common.{◌/◌, length, get_or, sum_by, sym, ap, ◌∙◌, arith}
 use native.Mathlib.Nat.{div-zero}
 use Rattle.rules.specs.Peaks.{figure_load, is_present}
-use Rattle.rules.proofs.Products.{greatest}
 use Rattle.rules.proofs.Figured.{fits_at, load_small, sum-kept_more, number_kept_more, kept_same, averaged}
 use Rattle.rules.proofs.peaks.Basis.average_load.Goals as goal
 use Rattle.rules.proofs.peaks.Basis.average_load.Goals.{Then-has, then-has, else-has}

@@ -1,4 +1,4 @@
-use Rattle.std.proofs.Common.{◌≡◌, sym, ap}
+use Rattle.std.proofs.Common.{sym, ap}
 use Rattle.rules.specs.declared.sharing.Pot.{Pot}
 use Rattle.rules.proofs.Shares.{up_to-none}
 use Rattle.rules.proofs.sharing.Pot.new.Goals as goal

@@ -1,10 +1,8 @@
-use Rattle.std.proofs.Common.{◌≡◌, ℕ, ◌+◌, ◌-◌, ◌*◌, ◌<◌, ◌≤◌, true, length, sym, refl, ap, ◌∙◌, arith}
+use Rattle.std.proofs.Common.{◌≡◌, ◌+◌, ◌-◌, ◌*◌, ◌<◌, true, length, sym, refl, ap, ◌∙◌, arith}
 use Rattle.std.proofs.lemmas.List.{length_push}
 use Rattle.rows.specs.Lawful.{lawful}
-use Rattle.archive.specs.Contents.{contents}
 use Rattle.archive.specs.Held.{byte_contents}
 use Rattle.archive.specs.Packed.{put, places, rows_in}
-use Rattle.archive.proofs.Packing.{whole-fits}
 use Rattle.archive.proofs.Putting.{written_none, room_for, length-put, put_step, put_whole, put_done, put-rows, accepting, appended_is}
 use Rattle.archive.proofs.bytes.meaning.ByteArchiveArchive.append.Goals as goal
 

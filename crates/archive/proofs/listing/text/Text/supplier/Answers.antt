@@ -1,7 +1,5 @@
-use Rattle.std.proofs.Common.{◌≡◌, ◌+◌, length, decimal, sym, ap, ◌∙◌, arith}
-use Rattle.std.specs.Fmt.{signed_decimal}
+use Rattle.std.proofs.Common.{length, sym, ap, arith}
 use Rattle.std.proofs.lemmas.Int.{to_z-of_z}
-use Rattle.archive.specs.Listing.{supplier_line}
 use Rattle.archive.proofs.Growing.{grown_then, grown_same}
 use Rattle.archive.proofs.Lines.{line_is, length_line}
 use Rattle.archive.proofs.listing.text.Text.supplier.Goals as goal
