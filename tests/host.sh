@@ -43,7 +43,7 @@ compile() {
     gcc -std=c11 -Wall -Wextra -Werror -O2 -Iinclude -o "build/$1" "host/$1.c" "$library"
 }
 
-must "the library is proved and built" rt staticlib billing
+must "the library is proved and built" tools/build library
 must "main.c compiles" compile main
 must "check.c compiles" compile check
 
