@@ -1,6 +1,6 @@
 -- The rows of what suppliers 1 to n are due.
 use Rattle.std.proofs.Common.{◌≡◌, ℕ, zero, suc, ◌+◌, ◌-◌, ◌<◌, ◌≤◌, Bool, true, false, ◌&&◌, leb, ◌⊎◌, List, [], ◌∷◌, ◌++◌, length, get_or, set, ℤ, pos, negsuc, sym, refl, ap, ◌∙◌, subst, inl, inr, ⊎_elim, add-one, arith, w64, SFits, to_z, of_z}
-use Rattle.std.specs.List.{AllByRecursion as All}
+use Rattle.std.specs.List.{AllByRecursion}
 use Rattle.std.proofs.ByRecursion.{All-append}
 use Rattle.std.proofs.lemmas.List.{append-nil, length-append, length_push, get_or-set_same, get_or-set_other}
 use Rattle.std.proofs.lemmas.Int.{to_z-of_z, ints}
@@ -122,12 +122,12 @@ dues_more all due i z l e below s low high =
     (cases_eq s (i + 1))
 
 -- the rows that are due are lawful
-pub rows_for-lawful : (slot : Slot) (due : ℕ → ℤ) → lawful_slot slot ≡ true → all_in_range due 32 ≡ true → (n : ℕ) → n ≤ 32 → All Lawful (rows_for slot due n)
+pub rows_for-lawful : (slot : Slot) (due : ℕ → ℤ) → lawful_slot slot ≡ true → all_in_range due 32 ≡ true → (n : ℕ) → n ≤ 32 → AllByRecursion Lawful (rows_for slot due n)
 unfolding rows_for
 rows_for-lawful slot due good small zero l = tt
 rows_for-lawful slot due good small (suc n) l =
     All-append Lawful (rows_for slot due n) (row_for slot (suc n) (due (suc n))) (rows_for-lawful slot due good small n (omega arith))
     (⊎_elim
-    (λ e. subst (All Lawful) (sym (row_for-none slot (suc n) (due (suc n)) e)) tt)
-    (λ ne. subst (All Lawful) (sym (row_for_one slot (suc n) (due (suc n)) ne)) (lawful_due slot (suc n) (due (suc n)) good (omega arith) (omega arith) (all_in_range_at due (suc n) 32 (omega arith) (omega arith) small) ne, tt))
+    (λ e. subst (AllByRecursion Lawful) (sym (row_for-none slot (suc n) (due (suc n)) e)) tt)
+    (λ ne. subst (AllByRecursion Lawful) (sym (row_for_one slot (suc n) (due (suc n)) ne)) (lawful_due slot (suc n) (due (suc n)) good (omega arith) (omega arith) (all_in_range_at due (suc n) 32 (omega arith) (omega arith) small) ne, tt))
     (cases_zero (due (suc n))))

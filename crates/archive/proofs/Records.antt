@@ -1,6 +1,6 @@
 -- Rows in a table.
 use Rattle.std.proofs.Common.{◌≡◌, ℕ, ◌<◌, ◌≤◌, true, List, [], ◌∷◌, ◌++◌, length, get_or, take, Some, sym, refl, ap, ◌∙◌, arith}
-use Rattle.std.specs.List.{slice_get, AllByRecursion as All}
+use Rattle.std.specs.List.{slice_get, AllByRecursion}
 use Rattle.std.proofs.lemmas.List.{get_or-take, length-take-le}
 use Rattle.std.proofs.lemmas.Option.{slice_get-get_or}
 use Rattle.std.proofs.lemmas.Bool.{and_parts, and_from}
@@ -8,7 +8,7 @@ use Rattle.rows.specs.declared.Row.{Row}
 use Rattle.rows.specs.Lawful.{lawful, Lawful}
 use Rattle.archive.specs.Packed.{all_lawful}
 
-pub all_from_test : (rs : List Row) → all_lawful rs ≡ true → All Lawful rs
+pub all_from_test : (rs : List Row) → all_lawful rs ≡ true → AllByRecursion Lawful rs
 all_from_test [] e = tt
 all_from_test (r ∷ rs) e = let p = and_parts (lawful r) (all_lawful rs) e in (p.0, all_from_test rs p.1)
 

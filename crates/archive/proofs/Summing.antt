@@ -1,7 +1,7 @@
 -- All sums of an hour, one row after another.
 use Rattle.std.proofs.Common.{◌≡◌, ℕ, ◌+◌, ◌-◌, ◌*◌, ◌<◌, ◌≤◌, true, false, List, [], map, length, get_or, take, set, replicate, ℤ, pos, ◌+ℤ◌, nat_abs, Some, None, sym, refl, ap, ◌∙◌, ⊎_elim, arith}
 use lib.IntN.{+ℤ_idr}
-use Rattle.std.specs.List.{slice_get, range_with_len, AllByRecursion as All}
+use Rattle.std.specs.List.{slice_get, range_with_len, AllByRecursion}
 use Rattle.std.proofs.lemmas.List.FromFn.{length-map-range_with_len, get_or-map-range_with_len}
 use Rattle.std.proofs.ByRecursion.{All-get_or}
 use Rattle.std.proofs.lemmas.List.{get_or-set_same, get_or-set_other, get_or-replicate, length-set, ext_get_or}
@@ -31,7 +31,7 @@ read_row rs i r e =
 pub row_there : (rs : List Row) (i : ℕ) → i < length rs → None ≡ slice_get rs i → ⊥
 row_there rs i l e = let n = nth-getD rs i no_row l in let z : ◌≡◌ {A = ℕ} 0 1 = cc in omega arith
 
-pub read_lawful : (rs : List Row) (i : ℕ) (r : Row) → Some r ≡ slice_get rs i → All Lawful rs → Lawful r
+pub read_lawful : (rs : List Row) (i : ℕ) (r : Row) → Some r ≡ slice_get rs i → AllByRecursion Lawful rs → Lawful r
 read_lawful rs i r e all =
     let p = read_row rs i r e in
     ap lawful (sym p.1) ∙ All-get_or Lawful rs i r p.0 all
@@ -86,7 +86,7 @@ module _ (k : Kind) (d h : ℕ) where
         }
 
   -- No sum overflows: at most 1,000,000 rows of at most 3,000,000,000 each.
-  module _ (rs : List Row) (all : All Lawful rs) where
+  module _ (rs : List Row) (all : AllByRecursion Lawful rs) where
     pub sum_within : (s i : ℕ) → i ≤ length rs → Within (i * 3000000000) (sum_of k d h s (take i rs))
     unfolding sum_of
     sum_within s i l = total_within Lawful (portion k d h s) 3000000000 no_row (portion_within k d h s) rs all i l
@@ -96,7 +96,7 @@ module _ (k : Kind) (d h : ℕ) where
     hour_within i l = total_within Lawful (hour_portion k d h) 3000000000 no_row (hour_portion_within k d h) rs all i l
 
   -- the sums once a row of the hour is added
-  pub added-small : (rs : List Row) (i : ℕ) (r : Row) → Some r ≡ slice_get rs i → All Lawful rs → length rs ≤ 1000000 → (sums : List ℤ) (zone : ℤ) → in_hour k d h r ≡ true → Summed sums zone (take i rs) → (nat_abs (get_or sums (r.supplier - 1) (pos 0) +ℤ r.amount) ≤ 3000000000000000) × (nat_abs (zone +ℤ r.amount) ≤ 3000000000000000)
+  pub added-small : (rs : List Row) (i : ℕ) (r : Row) → Some r ≡ slice_get rs i → AllByRecursion Lawful rs → length rs ≤ 1000000 → (sums : List ℤ) (zone : ℤ) → in_hour k d h r ≡ true → Summed sums zone (take i rs) → (nat_abs (get_or sums (r.supplier - 1) (pos 0) +ℤ r.amount) ≤ 3000000000000000) × (nat_abs (zone +ℤ r.amount) ≤ 3000000000000000)
   added-small rs i r read all few sums zone inside p =
       let law = read_lawful rs i r read all in
       let u = (lawful_ranges r law).supplier in
@@ -111,7 +111,7 @@ module _ (k : Kind) (d h : ℕ) where
   summed_is sums zone rs p =
       ext_get_or (pos 0) sums (map (λ s. sum_of k d h s rs) (range_with_len 1 32)) (p.many ∙ sym (length-map-range_with_len (λ s. sum_of k d h s rs) 1 32)) (λ s l. p.each s (omega (arith, p.many)) ∙ sym (get_or-map-range_with_len (λ s. sum_of k d h s rs) 1 32 s (s + 1) (pos 0) (omega (arith, p.many)) (omega arith)))
 
-  pub summed_small : (sums : List ℤ) (zone : ℤ) (rs : List Row) (i : ℕ) → All Lawful rs → length rs ≤ 1000000 → i ≤ length rs → Summed sums zone (take i rs) → Small sums zone
+  pub summed_small : (sums : List ℤ) (zone : ℤ) (rs : List Row) (i : ℕ) → AllByRecursion Lawful rs → length rs ≤ 1000000 → i ≤ length rs → Summed sums zone (take i rs) → Small sums zone
   summed_small sums zone rs i all few l p = record {
     many = p.many;
     suppliers = λ s b. rw (p.each s b) (small_abs i _ (omega arith) (sum_within rs all (s + 1) i l));

@@ -1,7 +1,7 @@
 -- Totals over a list, and sums over 1 to n.
 use Rattle.std.proofs.Common.{◌≡◌, ℕ, zero, suc, ◌+◌, ◌*◌, ◌<◌, ◌≤◌, List, [], ◌∷◌, ◌++◌, map, length, get_or, take, ℤ, pos, ◌+ℤ◌, neg_ℤ, ◌≤ℤ◌, fold, sum, sym, refl, ap, ◌∙◌, ⊎_elim, add-mul, add-one, arith}
 use lib.IntN.{+ℤ_idr, +ℤ_idl, +ℤ_assoc}
-use Rattle.std.specs.List.{range_with_len, AllByRecursion as All}
+use Rattle.std.specs.List.{range_with_len, AllByRecursion}
 use Rattle.std.proofs.lemmas.List.FromFn.{map-range_with_len_more}
 use Rattle.std.proofs.ByRecursion.{All-get_or}
 use Rattle.std.proofs.lemmas.Int.{ints}
@@ -24,7 +24,7 @@ module _ {X : Type 0} where
   total_more f xs i d l = fold_more (λ a y. a +ℤ f y) (pos 0) xs i d l
 
   -- of the first i elements, where each gives at most m either way
-  pub total_within : (P : X → Type 0) (f : X → ℤ) (m : ℕ) (d : X) → ((x : X) → P x → Within m (f x)) → (xs : List X) → All P xs → (i : ℕ) → i ≤ length xs → Within (i * m) (total f (take i xs))
+  pub total_within : (P : X → Type 0) (f : X → ℤ) (m : ℕ) (d : X) → ((x : X) → P x → Within m (f x)) → (xs : List X) → AllByRecursion P xs → (i : ℕ) → i ≤ length xs → Within (i * m) (total f (take i xs))
   total_within P f m d each xs all zero l = omega (arith, ints)
   total_within P f m d each xs all (suc i) l =
       let lt : i < length xs = omega arith in
@@ -40,7 +40,7 @@ module _ {X : Type 0} where
   pub total_cons : (f : X → ℤ) (x : X) (xs : List X) → total f (x ∷ xs) ≡ f x +ℤ total f xs
   total_cons f x xs = total_from f (pos 0 +ℤ f x) xs ∙ ap (λ z. z +ℤ total f xs) (+ℤ_idl (f x))
 
-  pub total_same : (P : X → Type 0) (f g : X → ℤ) → ((x : X) → P x → f x ≡ g x) → (xs : List X) → All P xs → total f xs ≡ total g xs
+  pub total_same : (P : X → Type 0) (f g : X → ℤ) → ((x : X) → P x → f x ≡ g x) → (xs : List X) → AllByRecursion P xs → total f xs ≡ total g xs
   total_same P f g e [] all = refl
   total_same P f g e (x ∷ xs) all =
       total_cons f x xs

@@ -1,6 +1,6 @@
 -- Sums of the rows of an hour. A peak row has hour 0, so hour 0 of kind peak is a day's peak rows.
 use Rattle.std.specs.Prelude.{◌≡◌, ℕ, zero, suc, ◌<◌, ◌≤◌, Bool, true, false, cond, ◌&&◌, List, map, length, ℤ, pos, ◌+ℤ◌, fold, ◌==◌, slice_index_or, unsigned_abs}
-use Rattle.std.specs.List.{range_with_len, AllByRecursion as All}
+use Rattle.std.specs.List.{range_with_len, AllByRecursion}
 use Rattle.rows.specs.declared.Row.{Row}
 use Rattle.rows.specs.declared.Kind.{Kind}
 use Rattle.rows.specs.declared.Kind.TheVariants.{Energy, Peak}
@@ -46,7 +46,7 @@ up_to f (suc n) = up_to f n +ℤ f (suc n)
 
 -- the suppliers' sums add up to that of the hour
 abbrev pub ZoneLaw : Type 0
-ZoneLaw = (k : Kind) (d h : ℕ) (rs : List Row) → All Lawful rs → up_to (λ s. sum_of k d h s rs) 32 ≡ hour_sum k d h rs
+ZoneLaw = (k : Kind) (d h : ℕ) (rs : List Row) → AllByRecursion Lawful rs → up_to (λ s. sum_of k d h s rs) 32 ≡ hour_sum k d h rs
 
 -- thirty-two sums and that of all, each at most 3,000,000,000,000,000 either way
 pub record Small (sums : List ℤ) (all : ℤ) : Type 0 where

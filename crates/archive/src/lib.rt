@@ -2,7 +2,7 @@
 #![tactic(auto)]
 
 ghost use Rattle.std.specs.Prelude.{◌≡◌, ℕ, ◌+◌, ◌≤◌, List, length};
-ghost use Rattle.std.specs.List.{slice_get, AllByRecursion as All};
+ghost use Rattle.std.specs.List.{slice_get, AllByRecursion};
 ghost use Rattle.rows.specs.declared.Row.{Row as RowT};
 ghost use Rattle.rows.specs.Lawful.{Lawful};
 ghost use Rattle.archive.specs.Contents.{Contents, appending, appended, kept};
@@ -40,7 +40,7 @@ pub trait Archive {
     /// How many rows there are. Each is lawful, and with the free places they are at most 1,000,000.
     fn count(&self) -> usize
         ensures answer { result ≡ length (meaning self.now).rows }
-        ensures lawful { All Lawful (meaning self.now).rows }
+        ensures lawful { AllByRecursion Lawful (meaning self.now).rows }
         ensures few { length (meaning self.now).rows + (meaning self.now).free ≤ 1000000 };
 
     /// How many more rows there is place for.

@@ -1,6 +1,6 @@
 -- The lines of a sheet in turn, by a table that is right for the lines that rise.
 use Rattle.std.proofs.Common.{◌≡◌, ℕ, suc, ◌+◌, ◌<◌, ◌≤◌, Bool, true, false, cond, eqb, List, [], ◌∷◌, ◌++◌, map, length, get_or, take, drop, IfOk, Some, None, Ok, Err, Option, Result, sym, refl, ap, ◌∙◌, ⊎_elim, arith}
-use Rattle.std.specs.List.{AllByRecursion as All}
+use Rattle.std.specs.List.{AllByRecursion}
 use Rattle.std.proofs.lemmas.List.{drop_all, drop_more, length-map, length-take-le, take_all, take_at, take-map}
 use Rattle.std.proofs.lemmas.Bool.{cases_Bool, eqb-false}
 use Rattle.refusals.specs.declared.Refusal.{Refusal}
@@ -97,7 +97,7 @@ all_rise place before (l ∷ ls) (s ∷ ss) p e =
     let b = passed (is_range l.cause) (is_above before l.account) l.cause s a.0 in
     ap (λ t. cond t (suc (rising_after (Some l.account) (accounts ls))) 0) b.0 ∙ ap suc (all_rise (place + 1) (Some l.account) ls ss (omega arith) a.1)
 
-pub all_served : (place : ℕ) (before : Option ℕ) (ls : List SheetLine) (ss : List ℕ) → length ls ≡ length ss → checked_from place before ls ss ≡ Ok tt → All (λ s. s ≡ 0 → ⊥) ss
+pub all_served : (place : ℕ) (before : Option ℕ) (ls : List SheetLine) (ss : List ℕ) → length ls ≡ length ss → checked_from place before ls ss ≡ Ok tt → AllByRecursion (λ s. s ≡ 0 → ⊥) ss
 all_served place before [] [] p e = tt
 all_served place before [] (s ∷ ss) p e = absurd (omega arith)
 all_served place before (l ∷ ls) [] p e = absurd (omega arith)

@@ -1,6 +1,6 @@
 -- Once an hour is settled its rows add up to what they stand for.
 use Rattle.std.proofs.Common.{◌≡◌, ℕ, ◌<◌, ◌≤◌, ◌⊎◌, List, [], ◌∷◌, ◌++◌, map, length, get_or, pos, IfOk, Some, None, Ok, Err, sum, Option, Result, sym, refl, ap, ◌∙◌, subst, inl, inr, ⊎_elim, arith}
-use Rattle.std.specs.List.{range_with_len, AllByRecursion as All}
+use Rattle.std.specs.List.{range_with_len, AllByRecursion}
 use Rattle.std.proofs.ByRecursion.{All-append}
 use Rattle.std.proofs.lemmas.List.{length-map, get_or-map, get_or_default}
 use Rattle.std.proofs.lemmas.Bool.{cases_Bool, and_parts, leb-true}
@@ -43,7 +43,7 @@ supplier_small (Some e) =
     (λ n. rw n (omega arith))
     (cases_Bool (is_supplier e.supplier))
 
-served_small : (day : ℕ) (entries : List Entry) (accounts : List ℕ) → All (λ s. s ≡ 0 → ⊥) (map (λ a. supplier_on a day entries) accounts) → All (λ s. (1 ≤ s) × (s ≤ 32)) (map (λ a. supplier_on a day entries) accounts)
+served_small : (day : ℕ) (entries : List Entry) (accounts : List ℕ) → AllByRecursion (λ s. s ≡ 0 → ⊥) (map (λ a. supplier_on a day entries) accounts) → AllByRecursion (λ s. (1 ≤ s) × (s ≤ 32)) (map (λ a. supplier_on a day entries) accounts)
 served_small day entries [] all = tt
 served_small day entries (a ∷ rest) all =
     ((let ne = all.0 in omega arith, supplier_small (last_entry a (Some day) entries)), served_small day entries rest all.1)
@@ -126,7 +126,7 @@ settling_law h room c n whole slip lawful e =
     }
 
 -- the same of the archive that an accepted call leaves
-pub settled_by : (h : Hour) (room : ℕ) (c c' : Contents) (n : ℕ) → Whole h.parts → LawfulSlip h.slip → All Lawful c.rows → settling h room c ≡ Ok n → c' ≡ settled_archive h room c → Settled h c.rows c'.rows
+pub settled_by : (h : Hour) (room : ℕ) (c c' : Contents) (n : ℕ) → Whole h.parts → LawfulSlip h.slip → AllByRecursion Lawful c.rows → settling h room c ≡ Ok n → c' ≡ settled_archive h room c → Settled h c.rows c'.rows
 settled_by h room c c' n whole slip lawful e after =
     let is : c'.rows ≡ c.rows ++ rows_in h c = ap (λ t. t.rows) (after ∙ ap (λ x. kept x (with_rows c (rows_in h c)) c) e) in
     subst (Settled h c.rows) (sym is) (settling_law h room c n whole slip lawful e)

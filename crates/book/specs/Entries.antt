@@ -1,6 +1,6 @@
 -- The roster's entries, and the supplier that they tell.
 use Rattle.std.specs.Prelude.{◌≡◌, ℕ, zero, suc, Bool, true, false, cond, ◌&&◌, List, [], ◌∷◌, ◌++◌, take, drop, Some, None, fold, Option, ◌==◌, nat_le}
-use Rattle.std.specs.List.{AllByRecursion as All}
+use Rattle.std.specs.List.{AllByRecursion}
 use Rattle.book.specs.declared.roster.Entry.{Entry}
 use Rattle.book.specs.declared.roster.Roster.{Roster}
 use Rattle.book.specs.Ranges.{is_supplier}
@@ -48,7 +48,7 @@ somebody (suc n) = Some (suc n)
 
 -- none of the entries is one of the account by that day
 abbrev pub NoneOf : ℕ → Option ℕ → List Entry → Type 0
-NoneOf account by entries = All (λ e. concerns account by e ≡ false) entries
+NoneOf account by entries = AllByRecursion (λ e. concerns account by e ≡ false) entries
 
 -- What the last entry is, whatever the entries: one that fits and has none behind it that fits; there is none where none fits.
 pub record LastDecides : Type 0 where

@@ -1,6 +1,6 @@
 -- What is so once an hour is settled, in the words of the subject.
 use Rattle.std.specs.Prelude.{◌≡◌, ℕ, ◌<◌, ◌≤◌, ◌⊎◌, List, ◌++◌, length, ℤ, pos, ◌+ℤ◌, Ok, sum, ◌≢◌, slice_index, slice_index_or}
-use Rattle.std.specs.List.{AllByRecursion as All}
+use Rattle.std.specs.List.{AllByRecursion}
 use Rattle.rows.specs.declared.Row.{Row}
 use Rattle.rows.specs.declared.Kind.{Kind}
 use Rattle.rows.specs.declared.Kind.TheVariants.{Energy}
@@ -51,4 +51,4 @@ pub record LawfulSlip (s : DaySlip) : Type 0 where
 
 -- of every accepted settling, whatever the archive held before
 abbrev pub SettlingLaw : Type 0
-SettlingLaw = (h : Hour) (room : ℕ) (c : Contents) (n : ℕ) → Whole h.parts → LawfulSlip h.slip → All Lawful c.rows → settling h room c ≡ Ok n → Settled h c.rows (c.rows ++ rows_in h c)
+SettlingLaw = (h : Hour) (room : ℕ) (c : Contents) (n : ℕ) → Whole h.parts → LawfulSlip h.slip → AllByRecursion Lawful c.rows → settling h room c ≡ Ok n → Settled h c.rows (c.rows ++ rows_in h c)

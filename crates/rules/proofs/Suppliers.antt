@@ -1,6 +1,6 @@
 -- Summing by supplier: one line more, the bound of a sum, and the law. Assumes nothing.
 use Rattle.std.proofs.Common.{◌≡◌, ℕ, zero, suc, ◌+◌, ◌-◌, ◌<◌, ◌≤◌, false, cond, ◌&&◌, eqb, leb, List, [], ◌∷◌, ◌++◌, length, get_or, set, replicate, sum_by, sum, sym, refl, ap, ◌∙◌, inl, inr, le_of_suc-le-suc, not-suc-le-zero, arith}
-use Rattle.std.specs.List.{range_with_len, AllByRecursion as All}
+use Rattle.std.specs.List.{range_with_len, AllByRecursion}
 use Rattle.std.proofs.lemmas.List.Sums.{sum_by-cons, sum-map}
 use Rattle.std.proofs.lemmas.List.FromFn.{length-map-range_with_len, get_or-map-range_with_len}
 use Rattle.std.proofs.ByRecursion.{All-weaker}
@@ -116,7 +116,7 @@ sum_by-none : (a n : ℕ) → sum_by (λ s. 0) (range_with_len a n) ≡ 0
 sum_by-none a zero = refl
 sum_by-none a (suc n) = omega (arith, sum_by-cons (λ s. 0) a (range_with_len (a + 1) n), sum_by-none (a + 1) n)
 
-from_all : (a n : ℕ) (suppliers finals : List ℕ) → length suppliers ≡ length finals → All (λ s. (a ≤ s) × (s < a + n)) suppliers →
+from_all : (a n : ℕ) (suppliers finals : List ℕ) → length suppliers ≡ length finals → AllByRecursion (λ s. (a ≤ s) × (s < a + n)) suppliers →
     sum_by (λ s. obligation s suppliers finals) (range_with_len a n) ≡ sum finals
 from_all a n [] [] e all = sum_by-none a n
 from_all a n [] (f ∷ fs) e all = absurd (omega arith)

@@ -1,6 +1,6 @@
 -- What the lines of each supplier receive together, of suppliers 1 to 32.
 use Rattle.std.specs.Prelude.{◌≡◌, ℕ, ◌+◌, ◌-◌, ◌≤◌, cond, ◌&&◌, List, [], ◌∷◌, map, length, sum, Result, ◌==◌, nat_le, slice_index, slice_set}
-use Rattle.std.specs.List.{range_with_len, AllByRecursion as All}
+use Rattle.std.specs.List.{range_with_len, AllByRecursion}
 use Rattle.refusals.specs.declared.Refusal.{Refusal}
 use Rattle.rules.specs.Shares.{sharing, unless_refused, finals}
 
@@ -24,4 +24,4 @@ added sums s share = cond (nat_le 1 s && nat_le s 32) (slice_set sums (s - 1) (s
 
 -- Where each line has one of the 32 suppliers, their obligations add up to what the lines receive.
 abbrev pub ObligationsAddUp : Type 0
-ObligationsAddUp = (suppliers finals : List ℕ) → length suppliers ≡ length finals → All (λ s. (1 ≤ s) × (s ≤ 32)) suppliers → sum (obligations suppliers finals) ≡ sum finals
+ObligationsAddUp = (suppliers finals : List ℕ) → length suppliers ≡ length finals → AllByRecursion (λ s. (1 ≤ s) × (s ≤ 32)) suppliers → sum (obligations suppliers finals) ≡ sum finals
