@@ -3,8 +3,7 @@
 # calls it, beside the same work in plain Rust. Not a test: it fails only where the two answer differently.
 set -eu
 cd "$(dirname "${BASH_SOURCE[0]}")/.."
-kit=$(dirname "$(dirname "$(rt doc)")")
-rt staticlib billing
+tools/build library
 mkdir -p build
-rustc -O --edition 2024 -L native=target/staticlib -C link-arg="$kit/lib/librattle_c.a" -o build/bench bench/plain/bench.rs
+rustc -O --edition 2024 -L native=target/staticlib -o build/bench bench/plain/bench.rs
 build/bench

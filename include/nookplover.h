@@ -1,5 +1,5 @@
 /* Nookplover for a billing host in C: the listing of an hour from row bytes.
- * Link with target/staticlib/libbilling.a (`rt staticlib billing`). It allocates nothing and keeps nothing. */
+ * Link with target/staticlib/libbilling.a (`tools/build library`). It allocates nothing and keeps nothing. */
 #ifndef NOOKPLOVER_H
 #define NOOKPLOVER_H
 
