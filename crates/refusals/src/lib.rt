@@ -2,7 +2,7 @@
 #![tactic(auto)]
 
 ghost use Rattle.std.specs.Prelude.{◌≡◌};
-ghost use Rattle.refusals.specs.Numbers.{number_of, layer_number};
+ghost use Rattle.refusals.specs.Numbers.{number_of, layer_number, refusal};
 
 /// The cause of a refusal. Each has one number, by which users know it.
 #[derive(Clone, Copy, PartialEq, Eq, Debug)]
@@ -82,5 +82,32 @@ impl Layer {
         ensures { result ≡ layer_number self }
     {
         self as u8
+    }
+}
+
+impl Refusal {
+    /// A refusal that has no place.
+    pub fn new(cause: Cause, layer: Layer) -> Refusal
+        ensures { result ≡ refusal cause layer 0 }
+    {
+        Refusal {
+            cause,
+            layer,
+            place: 0,
+        }
+    }
+
+    /// The refusal at a place.
+    pub fn at(self, place: usize) -> Refusal
+        ensures { result ≡ refusal self.cause self.layer place }
+    {
+        Refusal { place, ..self }
+    }
+
+    /// Its number, its layer's number and its place.
+    pub fn numbers(self) -> (u8, u8, usize)
+        ensures { result ≡ (number_of self.cause, layer_number self.layer, self.place) }
+    {
+        (self.cause.number(), self.layer.number(), self.place)
     }
 }

@@ -22,6 +22,14 @@ mark_bytes Peak = 0x50 ∷ 0x4C ∷ []
 abbrev pub kind_of : ℕ → ℕ → Option Kind
 kind_of a b = cond (a == 0x45 && b == 0x48) (Some Energy) (cond (a == 0x50 && b == 0x4C) (Some Peak) None)
 
+abbrev pub if_kind : Option Kind → Result Kind Fault
+if_kind None = Err Mark
+if_kind (Some k) = Ok k
+
+-- the kind that a mark tells
+abbrev pub kind_by : List ℕ → Result Kind Fault
+kind_by mark = if_kind (kind_of (slice_index mark 0) (slice_index mark 1))
+
 -- the eight bytes of x, high byte first
 abbrev pub eight_bytes : ℕ → List ℕ
 eight_bytes x = (x / 72057594037927936 % 256) ∷ (x / 281474976710656 % 256) ∷ (x / 1099511627776 % 256) ∷ (x / 4294967296 % 256) ∷ (x / 16777216 % 256) ∷ (x / 65536 % 256) ∷ (x / 256 % 256) ∷ (x % 256) ∷ []

@@ -4,7 +4,7 @@
 
 ghost use Rattle.std.specs.Prelude.{◌≡◌, drop, Ok, Err};
 ghost use Rattle.rows.specs.Lawful.{between, bookable, timely, lawful};
-ghost use Rattle.rows.specs.Format.{mark_bytes, kind_of, bytes_of, reading, fault_number, ReadsBack, WritesBack};
+ghost use Rattle.rows.specs.Format.{mark_bytes, kind_by, bytes_of, reading, fault_number, ReadsBack, WritesBack};
 
 /// What a row's amount is: energy of an hour, or a contribution to the peak.
 #[derive(Clone, Copy, PartialEq, Eq, Debug)]
@@ -56,58 +56,75 @@ impl Fault {
     }
 }
 
-fn within(low: u32, high: u32, n: u32) -> bool
-    ensures { result ≡ between low high n }
+/// Whether a number is that of a day.
+pub fn is_day(day: u32) -> bool
+    ensures { result ≡ between 1 60000 day }
 {
-    low <= n && n <= high
+    (1..=60_000).contains(&day)
+}
+
+/// Whether a number is that of a supplier.
+pub fn is_supplier(supplier: u32) -> bool
+    ensures { result ≡ between 1 32 supplier }
+{
+    (1..=32).contains(&supplier)
 }
 
 fn is_bookable(amount: i64) -> bool
     ensures { result ≡ bookable amount }
 {
-    -3_000_000_000 <= amount && amount <= 3_000_000_000 && amount != 0
+    (-3_000_000_000..=3_000_000_000).contains(&amount) && amount != 0
 }
 
-fn is_timely(kind: Kind, hour: u8, stage: u8) -> bool
-    ensures { result ≡ timely kind hour stage }
-{
-    match kind {
-        Kind::Energy => within(1, 25, hour as u32) && within(1, 2, stage as u32),
-        Kind::Peak => hour == 0 && stage == 0,
+impl Kind {
+    /// Whether rows of the kind have that hour and stage.
+    pub fn is_timely(self, hour: u8, stage: u8) -> bool
+        ensures { result ≡ timely self hour stage }
+    {
+        match self {
+            Kind::Energy => (1..=25).contains(&hour) && (1..=2).contains(&stage),
+            Kind::Peak => hour == 0 && stage == 0,
+        }
     }
 }
 
-fn mark_of(kind: Kind) -> [u8; 2]
-    ensures { result ≡ mark_bytes kind }
-{
-    match kind {
-        Kind::Energy => *ENERGY_MARK,
-        Kind::Peak => *PEAK_MARK,
+/// The mark of a kind.
+impl From<Kind> for [u8; 2] {
+    ghost from_gives = { λ kind mark. mark ≡ mark_bytes kind };
+
+    fn from(kind: Kind) -> [u8; 2] {
+        match kind {
+            Kind::Energy => *ENERGY_MARK,
+            Kind::Peak => *PEAK_MARK,
+        }
     }
 }
 
-fn kind_of(first: u8, second: u8) -> Option<Kind>
-    ensures { result ≡ kind_of first second }
-{
-    match &[first, second] {
-        ENERGY_MARK => Some(Kind::Energy),
-        PEAK_MARK => Some(Kind::Peak),
-        _ => None,
+/// The kind whose mark it is.
+impl TryFrom<[u8; 2]> for Kind {
+    type Error = Fault;
+
+    ghost try_from_gives = { λ mark r. r ≡ kind_by mark };
+
+    fn try_from(mark: [u8; 2]) -> Result<Kind, Fault> {
+        match &mark {
+            ENERGY_MARK => Ok(Kind::Energy),
+            PEAK_MARK => Ok(Kind::Peak),
+            _ => Err(Fault::Mark),
+        }
     }
 }
 
 impl Row {
     /// Whether every field is in its range.
+    #[tactic(auto, unfolding(crate::specs::Lawful::lawful))]
     pub fn is_lawful(self) -> bool
         ensures { result ≡ lawful self }
     {
-        if !within(1, 60_000, self.day as u32) {
-            return false;
-        }
-        if !within(1, 32, self.supplier as u32) {
-            return false;
-        }
-        is_bookable(self.amount) && is_timely(self.kind, self.hour, self.stage)
+        is_day(self.day as u32)
+            && is_supplier(self.supplier as u32)
+            && is_bookable(self.amount)
+            && self.kind.is_timely(self.hour, self.stage)
     }
 
     /// The row's fifteen bytes. A lawful row is read back from them, whatever follows.
@@ -115,7 +132,7 @@ impl Row {
         ensures bytes { result ≡ bytes_of self }
         ensures back { ReadsBack }
     {
-        let mark = mark_of(self.kind);
+        let mark = <[u8; 2]>::from(self.kind);
         let d = self.day.to_be_bytes();
         let a = self.amount.to_be_bytes();
         [
@@ -138,6 +155,7 @@ impl Row {
     }
 
     /// Reads the row that begins the bytes. What is read is written again as the same bytes.
+    #[tactic(auto, using(crate::proofs::Found::writes_back, std::proofs::lemmas::List::take_rest), unfolding(crate::specs::Format::reading))]
     pub fn read(bytes: &[u8]) -> Result<Read<'_>, Fault>
         ensures reads { elim result [ Ok v ↦ (reading bytes.now ≡ Ok v.row) × (v.rest.now ≡ drop 15 bytes.now) | Err f ↦ reading bytes.now ≡ Err f ] }
         ensures again { WritesBack }
@@ -163,9 +181,7 @@ impl Row {
         else {
             return Err(Fault::Short);
         };
-        let Some(kind) = kind_of(*m0, *m1) else {
-            return Err(Fault::Mark);
-        };
+        let kind = Kind::try_from([*m0, *m1])?;
         let day = u16::from_be_bytes([*d0, *d1]);
         let amount = i64::from_be_bytes([*a0, *a1, *a2, *a3, *a4, *a5, *a6, *a7]);
         let row = Row {

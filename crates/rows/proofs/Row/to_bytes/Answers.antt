@@ -14,4 +14,4 @@ pub returns : goal.returns
 unfolding bytes_of
 returns c =
     let f : SFits w64 c.args.self.amount = search rules in
-    record { bytes = simp (c.mark_of-mark.ensures, c.to_be_bytes-d.ensures, c.to_be_bytes-a.ensures, to_z-of_z) (mark_first c.args.self.kind _); back = reads_back }
+    record { bytes = simp (c.from-mark.ensures, c.to_be_bytes-d.ensures, c.to_be_bytes-a.ensures, to_z-of_z) (mark_first c.args.self.kind _); back = reads_back }
