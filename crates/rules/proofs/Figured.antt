@@ -1,16 +1,21 @@
 -- The figures of a peak line: that they fit, and the sum and number of the present ones. Assumes nothing.
-use Rattle.std.proofs.Common.{◌≡◌, ℕ, zero, suc, ◌+◌, ◌*◌, ◌/◌, ◌<◌, ◌≤◌, Bool, true, false, ◌&&◌, eqb, List, [], ◌∷◌, ◌++◌, length, get_or, take, drop, sum_by, filter, sym, ap, ◌∙◌, le_of_suc-le-suc, not-suc-le-zero, div-le_self, arith}
+use Rattle.std.proofs.Common.{◌≡◌, cond, Some, None, Option, Ok, Err, refl, ℕ, zero, suc, ◌+◌, ◌*◌, ◌/◌, ◌<◌, ◌≤◌, Bool, true, false, ◌&&◌, eqb, leb, List, [], ◌∷◌, ◌++◌, length, get_or, take, drop, sum_by, filter, sym, ap, ◌∙◌, le_of_suc-le-suc, not-suc-le-zero, div-le_self, arith}
 use Rattle.std.proofs.lemmas.Nat.{mul-le}
 use Rattle.std.proofs.lemmas.List.Elements.{filter_more}
 use Rattle.std.proofs.lemmas.List.{at_drop_more, length-append, append-nil, take_all}
 use Rattle.std.proofs.lemmas.List.Sums.{sum_by_push}
-use Rattle.std.proofs.lemmas.Bool.{cond_both, cond-true, cond-false, and_parts, and_left}
+use Rattle.std.proofs.lemmas.Bool.{and_from, cond_both, cond-true, cond-false, and_parts, and_left}
 use Rattle.std.proofs.lemmas.Bool.Decides.{nat_tests}
-use Rattle.rules.specs.declared.peaks.Basis.{Basis}
-use Rattle.rules.specs.declared.peaks.Basis.TheVariants.{Readings, Profile, Demand}
-use Rattle.rules.specs.Ranges.{missing, is_loss_factor, is_usage, is_profile_usage, is_reading, is_coincidence}
+use Rattle.rules.specs.Ranges.{is_account, between, missing, is_loss_factor, is_usage, is_profile_usage, is_reading, is_coincidence}
 use Rattle.rules.specs.Loads.{rounded}
-use Rattle.rules.specs.Peaks.{further_fits, figure_fits, all_fit, figure_load, present, average_load}
+use Rattle.rules.specs.Peaks.{Basis, Readings, Profile, Demand, is_present, weight_on, in_range_on, usage_fits_on, further_fits, figure_fits, all_fit, figure_load, present, average_load}
+use Rattle.rules.specs.declared.peaks.Basis.{Basis as BasisT}
+use Rattle.rules.specs.declared.peaks.Basis.TheVariants as kept
+use Rattle.rules.specs.Bases.{bare, load_if_fits, if_further_fits, average_if_fits, ratio_on}
+use Rattle.rules.specs.Within.{in_bounds}
+use Rattle.rules.specs.declared.peaks.PeakLine.{PeakLine}
+use Rattle.refusals.specs.declared.Cause.{Cause}
+use Rattle.refusals.specs.declared.Cause.TheVariants.{OutOfRange, UsageTooHigh}
 use Rattle.rules.proofs.Products.{greatest, loss_small, usage_small, profile_small, product_small}
 
 -- a figure among those that all fit
@@ -72,3 +77,44 @@ averaged loss b xs i t n h p q =
     let sum_is : t ≡ sum_by (figure_load loss b) (present b xs) = p ∙ ap (λ ys. sum_by (figure_load loss b) (present b ys)) all in
     let number_is : n ≡ length (present b xs) = q ∙ ap (λ ys. length (present b ys)) all in
     ap (λ u. u / n) sum_is ∙ ap (λ u. sum_by (figure_load loss b) (present b xs) / u) number_is
+
+-- what an answer tells that a test decides
+passed : {X : Type 0} (t : Bool) (x y : X) (e : Cause) → Ok x ≡ cond t (Ok y) (Err e) → (t ≡ true) × (x ≡ y)
+passed true x y e h = (refl, cc)
+passed false x y e h = cc
+
+-- what the load o of a figure tells
+module _ (loss : ℕ) (b : Basis) (x : ℕ) where
+  told : (o : Option ℕ) → Ok o ≡ load_if_fits loss b x → (figure_fits b x ≡ true) × (o ≡ cond (is_present b x) (Some (figure_load loss b x)) None)
+  told o = passed (figure_fits b x) o (cond (is_present b x) (Some (figure_load loss b x)) None) OutOfRange
+
+  pub fits_told : (o : Option ℕ) → Ok o ≡ load_if_fits loss b x → figure_fits b x ≡ true
+  fits_told o e = (told o e).0
+
+  pub load_told : (n : ℕ) → Ok (Some n) ≡ load_if_fits loss b x → (is_present b x ≡ true) × (n ≡ figure_load loss b x)
+  load_told n e = cond_both (is_present b x) (Some (figure_load loss b x)) None (λ r. Some n ≡ r → (is_present b x ≡ true) × (n ≡ figure_load loss b x)) (λ yes f. (yes, cc)) (λ no f. cc) (told (Some n) e).1
+
+  pub none_told : Ok None ≡ load_if_fits loss b x → is_present b x ≡ false
+  none_told e = cond_both (is_present b x) (Some (figure_load loss b x)) None (λ r. None ≡ r → is_present b x ≡ false) (λ yes f. cc) (λ no f. no) (told None e).1
+
+below : (n : ℕ) → between 0 100000000 n ≡ true → is_usage n ≡ true
+below n h = (and_parts (leb 0 n) (is_usage n) h).1
+
+-- further numbers that are known to be in range fit
+pub kept_fits : (b : BasisT) → further_fits (bare b) ≡ true
+kept_fits kept.Readings = refl
+kept_fits (kept.Profile billed usage) = and_from (is_usage billed.value) (is_profile_usage usage.value) (below billed.value billed.ok) usage.ok
+kept_fits (kept.Demand highest) = below highest.value highest.ok
+
+-- what a line of the basis b, in range and in ratio, weighs
+pub weighs : (l : PeakLine) (o : Option Basis) (b : Basis) (account loss n : ℕ) → Ok account ≡ in_bounds 1 999999999 l.account → Ok loss ≡ in_bounds 10000 20000 l.loss_factor →
+    Ok b ≡ if_further_fits o → Ok n ≡ average_if_fits loss b l.figures → Ok tt ≡ ratio_on b → n ≡ weight_on l o
+weighs l None b account loss n p q r s t = cc
+weighs l (Some d) b account loss n p q r s t =
+    let known = passed (is_account l.account) account l.account OutOfRange p in
+    let factor = passed (is_loss_factor l.loss_factor) loss l.loss_factor OutOfRange q in
+    let further = passed (further_fits d) b d OutOfRange r in
+    let average = passed (all_fit b l.figures) n (average_load loss b l.figures) OutOfRange s in
+    let ratio = passed (usage_fits_on b) tt tt UsageTooHigh t in
+    let yes : (in_range_on l d && usage_fits_on d) ≡ true = grind arith in
+    average.1 ∙ ap (λ f. average_load f b l.figures) factor.1 ∙ ap (λ y. average_load l.loss_factor y l.figures) further.1 ∙ sym (cond-true _ _ _ yes)

@@ -1,7 +1,9 @@
 pub mod Ranges
+pub mod Within
 pub mod Loads
 pub mod Lines
 pub mod Peaks
+pub mod Bases
 pub mod Shares
 pub mod Pots
 pub mod Obligations

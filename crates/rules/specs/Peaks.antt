@@ -1,16 +1,21 @@
 -- A line of a peak sheet: what it meets by itself, and its weight.
-use Rattle.std.specs.Prelude.{ℕ, ◌/◌, Bool, true, cond, not, ◌&&◌, List, [], ◌∷◌, length, Some, None, sum_by, filter, Option, ◌==◌}
+use Rattle.std.specs.Prelude.{ℕ, ◌/◌, Bool, true, cond, not, ◌&&◌, List, length, Some, None, sum_by, filter, Option, ◌==◌}
+use Rattle.std.specs.List.{list_all}
 use Rattle.refusals.specs.declared.Cause.{Cause}
 use Rattle.refusals.specs.declared.Cause.TheVariants.{OutOfRange}
 use Rattle.rules.specs.declared.units.Power.{Power}
-use Rattle.rules.specs.declared.peaks.Basis.{Basis}
-use Rattle.rules.specs.declared.peaks.Basis.TheVariants.{Readings, Profile, Demand}
 use Rattle.rules.specs.declared.peaks.PeakLine.{PeakLine}
 use Rattle.rules.specs.Ranges.{missing, is_account, is_loss_factor, is_reading, is_profile_load, is_usage, is_profile_usage, is_coincidence, usage_fits, verdict}
 use Rattle.rules.specs.Loads.{interval_load, profiled_load, demand_load}
 
 abbrev pub power : ℕ → Power
 power n = record { 0 = n }
+
+-- what a kind makes of the figures, with its further numbers
+pub data Basis : Type 0 where
+  Readings : Basis
+  Profile : ℕ → ℕ → Basis
+  Demand : ℕ → Basis
 
 -- What the kind and the two further numbers say of the figures: readings, with 0 and 0; profile loads, with billed usage
 -- and profile usage; coincidence factors, with highest demand and 0. There is no other.
@@ -33,8 +38,7 @@ figure_fits (Profile billed usage) figure = is_profile_load figure
 figure_fits (Demand demand) figure = is_coincidence figure
 
 abbrev pub all_fit : Basis → List ℕ → Bool
-all_fit b [] = true
-all_fit b (x ∷ xs) = figure_fits b x && all_fit b xs
+all_fit b figures = list_all (figure_fits b) figures
 
 abbrev pub in_range_on : PeakLine → Basis → Bool
 in_range_on l b = is_account l.account && (is_loss_factor l.loss_factor && (further_fits b && all_fit b l.figures))

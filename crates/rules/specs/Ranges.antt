@@ -1,5 +1,5 @@
 -- Which figures are in range. All are in units (hundredths), factors in ten-thousandths.
-use Rattle.std.specs.Prelude.{ℕ, ◌*◌, Bool, cond, ◌&&◌, ◌||◌, Some, None, Option, ◌==◌, nat_le}
+use Rattle.std.specs.Prelude.{ℕ, ◌*◌, Bool, cond, ◌&&◌, ◌||◌, Some, None, Option, Ok, Err, Result, ◌==◌, nat_le}
 use Rattle.refusals.specs.declared.Cause.{Cause}
 use Rattle.refusals.specs.declared.Cause.TheVariants.{OutOfRange, UsageTooHigh}
 
@@ -35,6 +35,10 @@ is_coincidence n = nat_le n 10000
 -- a billed usage is at most 100 times the profile usage
 abbrev pub usage_fits : ℕ → ℕ → Bool
 usage_fits billed usage = nat_le billed (100 * usage)
+
+-- whether it is, as an answer
+abbrev pub ratio : ℕ → ℕ → Result (Unit {0}) Cause
+ratio billed usage = cond (usage_fits billed usage) (Ok tt) (Err UsageTooHigh)
 
 -- Neither a zone load, an allocation nor a sum of loads may be above this.
 abbrev pub most : ℕ

@@ -20,7 +20,7 @@ pub use lines::Line;
 pub use obliging::obligations;
 pub use peaks::PeakLine;
 pub use percent::Percent;
-pub use ranges::MISSING;
+pub use ranges::{MISSING, is_account};
 pub use sharing::{MOST, Weighted, share, weigh};
 pub use totals::group_totals;
 pub use units::{Energy, Power};

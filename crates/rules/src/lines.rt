@@ -1,11 +1,10 @@
 //! The lines of a settle sheet.
-ghost use Rattle.std.specs.Prelude.{◌≡◌, true};
-ghost use Rattle.rules.specs.Lines.{account_of, in_range, usage_in_range, cause_of, figured_load, load_of, interval_weight, profiled_weight, energy};
+ghost use Rattle.std.specs.Prelude.{◌≡◌};
+ghost use Rattle.std.specs.Result.{result_err, result_unwrap_or};
+ghost use Rattle.rules.specs.Lines.{account_of, cause_of, load_of, interval_weight, profiled_weight, energy};
 
 use crate::loads::{interval_load, profiled_load};
-use crate::ranges::{
-    is_account, is_loss_factor, is_profile_load, is_profile_usage, is_reading, is_usage, usage_fits,
-};
+use crate::ranges::{Account, LossFactor, ProfileLoad, ProfileUsage, Usage, in_ratio};
 use crate::sharing::Weighted;
 use crate::units::Energy;
 use refusals::Cause;
@@ -35,46 +34,39 @@ impl Line {
         ensures { result ≡ account_of self.now }
     {
         match *self {
-            Line::Interval { account, .. } => account,
-            Line::Profiled { account, .. } => account,
+            Line::Interval { account, .. } | Line::Profiled { account, .. } => account,
         }
     }
 
-    fn in_range(&self) -> bool
-        ensures { result ≡ in_range self.now }
+    /// The line's load, or the cause for which it is to be refused.
+    fn figured(&self) -> Result<u64, Cause>
+        ensures cause { result_err result ≡ cause_of self.now }
+        ensures load { result_unwrap_or result 0 ≡ load_of self.now }
     {
+        Account::new(self.account())?;
         match *self {
             Line::Interval {
-                account,
                 loss_factor,
                 reading,
-            } => is_account(account) && is_loss_factor(loss_factor) && is_reading(reading),
+                ..
+            } => {
+                let loss = LossFactor::new(loss_factor)?;
+                Ok(Usage::read(reading)?.map_or(0, |reading| interval_load(loss, reading)))
+            }
             Line::Profiled {
-                account,
                 loss_factor,
                 profile_load,
                 billed_usage,
                 profile_usage,
-            } => {
-                is_account(account)
-                    && is_loss_factor(loss_factor)
-                    && is_profile_load(profile_load)
-                    && is_usage(billed_usage)
-                    && is_profile_usage(profile_usage)
-            }
-        }
-    }
-
-    fn usage_in_range(&self) -> bool
-        ensures { result ≡ usage_in_range self.now }
-    {
-        match *self {
-            Line::Interval { .. } => true,
-            Line::Profiled {
-                billed_usage,
-                profile_usage,
                 ..
-            } => usage_fits(billed_usage, profile_usage),
+            } => {
+                let loss = LossFactor::new(loss_factor)?;
+                let profile = ProfileLoad::new(profile_load)?;
+                let billed = Usage::new(billed_usage)?;
+                let usage = ProfileUsage::new(profile_usage)?;
+                in_ratio(billed, usage)?;
+                Ok(profiled_load(loss, profile, billed, usage))
+            }
         }
     }
 
@@ -82,44 +74,14 @@ impl Line {
     pub fn cause(&self) -> Option<Cause>
         ensures { result ≡ cause_of self.now }
     {
-        if !self.in_range() {
-            Some(Cause::OutOfRange)
-        } else if !self.usage_in_range() {
-            Some(Cause::UsageTooHigh)
-        } else {
-            None
-        }
-    }
-
-    fn figured_load(&self) -> u64
-        requires { in_range self.now ≡ true }
-        ensures { result ≡ figured_load self.now }
-    {
-        match *self {
-            Line::Interval {
-                loss_factor,
-                reading,
-                ..
-            } => interval_load(loss_factor, reading),
-            Line::Profiled {
-                loss_factor,
-                profile_load,
-                billed_usage,
-                profile_usage,
-                ..
-            } => profiled_load(loss_factor, profile_load, billed_usage, profile_usage),
-        }
+        self.figured().err()
     }
 
     /// The line's load; 0 if it has a cause to be refused.
     pub fn load(&self) -> Energy
         ensures { result ≡ energy (load_of self.now) }
     {
-        if self.in_range() && self.usage_in_range() {
-            Energy(self.figured_load())
-        } else {
-            Energy(0)
-        }
+        Energy(self.figured().unwrap_or(0))
     }
 }
 

@@ -1,9 +1,8 @@
 //! Loads from figures that are in range.
-ghost use Rattle.std.specs.Prelude.{◌≡◌, ◌<◌, ◌≤◌, true};
-ghost use Rattle.rules.specs.Ranges.{is_loss_factor, is_reading, is_profile_load, is_usage, is_profile_usage, is_coincidence};
-ghost use Rattle.rules.specs.Loads.{rounded, interval_load, profiled_load, demand_load};
+ghost use Rattle.std.specs.Prelude.{◌≡◌, ◌*◌, ◌<◌};
+ghost use Rattle.rules.specs.Loads.{rounded, profiled_load, demand_load};
 
-use crate::ranges::MISSING;
+use crate::ranges::{Coincidence, LossFactor, ProfileLoad, ProfileUsage, Usage};
 
 /// The one place where a load is rounded.
 fn rounded_load(n: u64, d: u64) -> u64
@@ -13,35 +12,32 @@ fn rounded_load(n: u64, d: u64) -> u64
     n / d
 }
 
-pub(crate) fn interval_load(loss: u32, reading: u32) -> u64
-    requires { (is_loss_factor loss ≡ true) × (is_reading reading ≡ true) }
-    ensures { result ≡ interval_load loss reading }
+/// Of a reading that is not missing.
+pub(crate) fn interval_load(loss: LossFactor, reading: Usage) -> u64
+    ensures { result ≡ rounded (reading.value * loss.value) 10000 }
 {
-    if reading == MISSING {
-        0
-    } else {
-        rounded_load(reading as u64 * loss as u64, 10_000)
-    }
+    rounded_load(reading.value as u64 * loss.value as u64, 10_000)
 }
 
-pub(crate) fn profiled_load(loss: u32, profile: u32, billed: u32, usage: u32) -> u64
-    requires loss { is_loss_factor loss ≡ true }
-    requires profile { is_profile_load profile ≡ true }
-    requires billed { is_usage billed ≡ true }
-    requires usage { is_profile_usage usage ≡ true }
-    ensures { result ≡ profiled_load loss profile billed usage }
+pub(crate) fn profiled_load(
+    loss: LossFactor,
+    profile: ProfileLoad,
+    billed: Usage,
+    usage: ProfileUsage,
+) -> u64
+    ensures { result ≡ profiled_load loss.value profile.value billed.value usage.value }
 {
     rounded_load(
-        profile as u64 * billed as u64 * loss as u64,
-        usage as u64 * 10_000,
+        profile.value as u64 * billed.value as u64 * loss.value as u64,
+        usage.value as u64 * 10_000,
     )
 }
 
-pub(crate) fn demand_load(loss: u32, demand: u32, factor: u32) -> u64
-    requires loss { is_loss_factor loss ≡ true }
-    requires demand { is_usage demand ≡ true }
-    requires factor { is_coincidence factor ≡ true }
-    ensures { result ≡ demand_load loss demand factor }
+pub(crate) fn demand_load(loss: LossFactor, demand: Usage, factor: Coincidence) -> u64
+    ensures { result ≡ demand_load loss.value demand.value factor.value }
 {
-    rounded_load(demand as u64 * factor as u64 * loss as u64, 100_000_000)
+    rounded_load(
+        demand.value as u64 * factor.value as u64 * loss.value as u64,
+        100_000_000,
+    )
 }

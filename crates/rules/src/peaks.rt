@@ -1,13 +1,11 @@
 //! The lines of a peak sheet.
-ghost use Rattle.std.specs.Prelude.{◌≡◌, ◌≤◌, true, length};
-ghost use Rattle.rules.specs.Ranges.{is_loss_factor};
-ghost use Rattle.rules.specs.Peaks.{basis_by, basis_of, further_fits, usage_fits_on, figure_fits, all_fit, in_range_on, peak_cause_of, figure_load, is_present, average_load, weight_of, no_weight, power};
+ghost use Rattle.std.specs.Prelude.{◌≡◌};
+ghost use Rattle.std.specs.Result.{result_err, result_unwrap_or};
+ghost use Rattle.rules.specs.Peaks.{basis_by, peak_cause_of, weight_of, no_weight, power};
+ghost use Rattle.rules.specs.Bases.{bare, basis_in, if_further_fits, ratio_on, load_if_fits, average_if_fits};
 
 use crate::loads::{demand_load, interval_load, profiled_load};
-use crate::ranges::{
-    MISSING, is_account, is_coincidence, is_loss_factor, is_profile_load, is_profile_usage,
-    is_reading, is_usage, usage_fits,
-};
+use crate::ranges::{Account, Coincidence, LossFactor, ProfileLoad, ProfileUsage, Usage, in_ratio};
 use crate::sharing::Weighted;
 use crate::units::Power;
 use refusals::Cause;
@@ -31,153 +29,94 @@ pub struct PeakLine {
 #[derive(Clone, Copy)]
 enum Basis {
     Readings,
-    Profile { billed: u32, usage: u32 },
-    Demand { highest: u32 },
+    Profile { billed: Usage, usage: ProfileUsage },
+    Demand { highest: Usage },
 }
 
 impl Basis {
-    fn by_kind(kind: u32, n: u32, m: u32) -> Option<Basis>
-        ensures { result ≡ basis_by kind n m }
+    fn by_kind(kind: u32, n: u32, m: u32) -> Result<Basis, Cause>
+        ensures { basis_in result ≡ if_further_fits (basis_by kind n m) }
     {
-        if kind == 1 && n == 0 && m == 0 {
-            Some(Basis::Readings)
-        } else if kind == 2 {
-            Some(Basis::Profile {
-                billed: n,
-                usage: m,
-            })
-        } else if kind == 3 && m == 0 {
-            Some(Basis::Demand { highest: n })
-        } else {
-            None
+        match (kind, n, m) {
+            (1, 0, 0) => Ok(Basis::Readings),
+            (2, billed, usage) => Ok(Basis::Profile {
+                billed: Usage::new(billed)?,
+                usage: ProfileUsage::new(usage)?,
+            }),
+            (3, highest, 0) => Ok(Basis::Demand {
+                highest: Usage::new(highest)?,
+            }),
+            _ => Err(Cause::OutOfRange),
         }
     }
 
-    fn further_fits(self) -> bool
-        ensures { result ≡ further_fits self }
+    fn in_ratio(self) -> Result<(), Cause>
+        ensures { result ≡ ratio_on (bare self) }
     {
         match self {
-            Basis::Readings => true,
-            Basis::Profile { billed, usage } => is_usage(billed) && is_profile_usage(usage),
-            Basis::Demand { highest } => is_usage(highest),
+            Basis::Profile { billed, usage } => in_ratio(billed, usage),
+            _ => Ok(()),
         }
     }
 
-    fn usage_fits(self) -> bool
-        ensures { result ≡ usage_fits_on self }
+    /// The load of a figure, none for a missing reading.
+    fn load(self, loss: LossFactor, figure: u32) -> Result<Option<u64>, Cause>
+        ensures { result ≡ load_if_fits loss.value (bare self) figure }
     {
         match self {
-            Basis::Profile { billed, usage } => usage_fits(billed, usage),
-            _ => true,
-        }
-    }
-
-    fn fits(self, figure: u32) -> bool
-        ensures { result ≡ figure_fits self figure }
-    {
-        match self {
-            Basis::Readings => is_reading(figure),
-            Basis::Profile { .. } => is_profile_load(figure),
-            Basis::Demand { .. } => is_coincidence(figure),
-        }
-    }
-
-    fn all_fit(self, figures: &[u32]) -> bool
-        ensures { result ≡ all_fit self figures.now }
-    {
-        for figure in figures {
-            if !self.fits(*figure) {
-                return false;
+            Basis::Readings => Ok(Usage::read(figure)?.map(|reading| interval_load(loss, reading))),
+            Basis::Profile { billed, usage } => {
+                let profile = ProfileLoad::new(figure)?;
+                Ok(Some(profiled_load(loss, profile, billed, usage)))
+            }
+            Basis::Demand { highest } => {
+                let factor = Coincidence::new(figure)?;
+                Ok(Some(demand_load(loss, highest, factor)))
             }
         }
-        true
     }
 
-    fn has(self, figure: u32) -> bool
-        ensures { result ≡ is_present self figure }
-    {
-        match self {
-            Basis::Readings => figure != MISSING,
-            _ => true,
-        }
-    }
-
-    fn load(self, loss: u32, figure: u32) -> u64
-        requires loss { is_loss_factor loss ≡ true }
-        requires further { further_fits self ≡ true }
-        requires figure { figure_fits self figure ≡ true }
-        ensures { result ≡ figure_load loss self figure }
-    {
-        match self {
-            Basis::Readings => interval_load(loss, figure),
-            Basis::Profile { billed, usage } => profiled_load(loss, figure, billed, usage),
-            Basis::Demand { highest } => demand_load(loss, highest, figure),
-        }
-    }
-
-    fn average_load(self, loss: u32, figures: &[u32]) -> u64
-        requires loss { is_loss_factor loss ≡ true }
-        requires further { further_fits self ≡ true }
-        requires figures { all_fit self figures.now ≡ true }
-        requires five { length figures.now ≤ 5 }
-        ensures { result ≡ average_load loss self figures.now }
+    fn average_load(self, loss: LossFactor, figures: &[u32; 5]) -> Result<u64, Cause>
+        ensures { result ≡ average_if_fits loss.value (bare self) figures.now }
     {
         let mut total: u64 = 0;
         let mut number: u64 = 0;
         for figure in figures {
-            if self.has(*figure) {
-                total += self.load(loss, *figure);
+            if let Some(load) = self.load(loss, *figure)? {
+                total += load;
                 number += 1;
             }
         }
-        if number == 0 { 0 } else { total / number }
+        Ok(total.checked_div(number).unwrap_or(0))
     }
 }
 
 impl PeakLine {
-    fn basis(&self) -> Option<Basis>
-        ensures { result ≡ basis_of self.now }
+    /// The line's weight, or the cause for which it is to be refused.
+    fn figured(&self) -> Result<u64, Cause>
+        ensures cause { result_err result ≡ peak_cause_of self.now }
+        ensures weight { result_unwrap_or result 0 ≡ weight_of self.now }
     {
-        Basis::by_kind(self.kind, self.usage, self.profile_usage)
-    }
-
-    fn in_range_on(&self, basis: Basis) -> bool
-        ensures { result ≡ in_range_on self.now basis }
-    {
-        is_account(self.account)
-            && is_loss_factor(self.loss_factor)
-            && basis.further_fits()
-            && basis.all_fit(&self.figures)
+        Account::new(self.account)?;
+        let loss = LossFactor::new(self.loss_factor)?;
+        let basis = Basis::by_kind(self.kind, self.usage, self.profile_usage)?;
+        let average = basis.average_load(loss, &self.figures)?;
+        basis.in_ratio()?;
+        Ok(average)
     }
 
     /// The cause for which the line, looked at by itself, is to be refused.
     pub fn cause(&self) -> Option<Cause>
         ensures { result ≡ peak_cause_of self.now }
     {
-        let Some(basis) = self.basis() else {
-            return Some(Cause::OutOfRange);
-        };
-        if !self.in_range_on(basis) {
-            Some(Cause::OutOfRange)
-        } else if !basis.usage_fits() {
-            Some(Cause::UsageTooHigh)
-        } else {
-            None
-        }
+        self.figured().err()
     }
 
     /// The average of the line's present loads; 0 with none present, or if it has a cause to be refused.
     pub fn weight(&self) -> Power
         ensures { result ≡ power (weight_of self.now) }
     {
-        let Some(basis) = self.basis() else {
-            return Power(0);
-        };
-        if self.in_range_on(basis) && basis.usage_fits() {
-            Power(basis.average_load(self.loss_factor, &self.figures))
-        } else {
-            Power(0)
-        }
+        Power(self.figured().unwrap_or(0))
     }
 }
 

@@ -1,56 +1,74 @@
 //! The range of each figure of a line.
-ghost use Rattle.std.specs.Prelude.{◌≡◌};
-ghost use Rattle.rules.specs.Ranges.{is_account, is_loss_factor, is_usage, is_reading, is_profile_load, is_profile_usage, is_coincidence, usage_fits};
+ghost use Rattle.std.specs.Prelude.{◌≡◌, true};
+ghost use Rattle.rules.specs.Ranges.{between, is_account, ratio};
+
+use refusals::Cause;
 
 /// The reading that stands for one that is missing.
 pub const MISSING: u32 = 4_294_967_295;
 
-pub(crate) fn is_account(n: u32) -> bool
+/// A figure from LOW to HIGH.
+#[derive(Clone, Copy)]
+pub(crate) struct Within<const LOW: u32, const HIGH: u32> {
+    pub(crate) value: u32,
+    ghost ok: { between LOW HIGH value ≡ true },
+}
+
+pub(crate) type Account = Within<1, 999_999_999>;
+
+pub(crate) type LossFactor = Within<10_000, 20_000>;
+/// A billed usage, a highest demand, or a reading that is not missing.
+pub(crate) type Usage = Within<0, 100_000_000>;
+
+pub(crate) type ProfileLoad = Within<0, 1_000_000>;
+
+pub(crate) type ProfileUsage = Within<1, 2_000_000_000>;
+
+pub(crate) type Coincidence = Within<0, 10_000>;
+
+impl<const LOW: u32, const HIGH: u32> Within<LOW, HIGH> {
+    ghost use Rattle.rules.specs.Within.{in_bounds, number_in};
+
+    pub(crate) fn new(n: u32) -> Result<Self, Cause>
+        ensures { number_in result ≡ in_bounds LOW HIGH n }
+    {
+        if (LOW..=HIGH).contains(&n) {
+            Ok(Within { value: n })
+        } else {
+            Err(Cause::OutOfRange)
+        }
+    }
+}
+
+impl Usage {
+    ghost use Rattle.rules.specs.Within.{read, reading_in};
+
+    /// The reading, none for one that is missing.
+    pub(crate) fn read(n: u32) -> Result<Option<Usage>, Cause>
+        ensures { reading_in result ≡ read n }
+    {
+        if n == MISSING {
+            Ok(None)
+        } else {
+            Usage::new(n).map(Some)
+        }
+    }
+}
+
+/// Whether n is the number of an account.
+pub fn is_account(n: u32) -> bool
     ensures { result ≡ is_account n }
 {
-    1 <= n && n <= 999_999_999
-}
-
-pub(crate) fn is_loss_factor(n: u32) -> bool
-    ensures { result ≡ is_loss_factor n }
-{
-    10_000 <= n && n <= 20_000
-}
-
-/// A billed usage or a highest demand.
-pub(crate) fn is_usage(n: u32) -> bool
-    ensures { result ≡ is_usage n }
-{
-    n <= 100_000_000
-}
-
-pub(crate) fn is_reading(n: u32) -> bool
-    ensures { result ≡ is_reading n }
-{
-    is_usage(n) || n == MISSING
-}
-
-pub(crate) fn is_profile_load(n: u32) -> bool
-    ensures { result ≡ is_profile_load n }
-{
-    n <= 1_000_000
-}
-
-pub(crate) fn is_profile_usage(n: u32) -> bool
-    ensures { result ≡ is_profile_usage n }
-{
-    1 <= n && n <= 2_000_000_000
-}
-
-pub(crate) fn is_coincidence(n: u32) -> bool
-    ensures { result ≡ is_coincidence n }
-{
-    n <= 10_000
+    Account::new(n).is_ok()
 }
 
 /// A billed usage may be at most 100 times the profile usage.
-pub(crate) fn usage_fits(billed: u32, usage: u32) -> bool
-    ensures { result ≡ usage_fits billed usage }
+pub(crate) fn in_ratio(billed: Usage, usage: ProfileUsage) -> Result<(), Cause>
+    ensures { result ≡ ratio billed.value usage.value }
 {
-    billed as u64 <= 100 * usage as u64
+    if billed.value as u64 <= 100 * usage.value as u64 {
+        Ok(())
+    } else {
+        Err(Cause::UsageTooHigh)
+    }
 }
