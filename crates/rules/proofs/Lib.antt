@@ -1,8 +1,8 @@
 pub mod Products
 pub mod Figured
 pub mod Shares
-pub mod Serving
 pub mod Weighing
+pub mod Serving
 pub mod Parting
 pub mod Suppliers
 pub mod Summing

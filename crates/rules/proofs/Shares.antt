@@ -4,7 +4,7 @@ use native.Mathlib.Nat.{zero-div, div-zero, lt-div-mul-add, mul-sub}
 use Rattle.std.proofs.lemmas.List.Sums.{sum_by-cons}
 use Rattle.std.proofs.lemmas.Nat.{le-div, mul-le}
 use Rattle.rules.specs.Ranges.{most}
-use Rattle.rules.specs.Shares.{up_to, shares_after, shares, plus, Near, SharesAddUp, SharesAreNear, OwnGroupOnly, FinalsAddUp, OneGroup, SharingLaws}
+use Rattle.rules.specs.Shares.{up_to, shares_after, shares, plus, finals, Near, SharesAddUp, SharesAreNear, OwnGroupOnly, FinalsAddUp, OneGroup, SharingLaws}
 
 -- more weight, no smaller part
 pub up_to_rises : (g w c x : ℕ) → up_to g w c ≤ up_to g w (c + x)
@@ -57,6 +57,9 @@ shares_add_up g ws = (λ p. omega (arith, told, up_to-none g (sum ws), whole (su
 
     none : (w : ℕ) → w ≡ 0 → up_to g w (0 + w) ≡ 0
     none w e = ap (λ n. g * (0 + w) / n) e ∙ div-zero (g * (0 + w))
+
+pub shares_le : (g : ℕ) (ws : List ℕ) → sum (shares g ws) ≤ g
+shares_le g ws = omega (arith, sum_after g (sum ws) 0 ws, up_to_le g (sum ws) (0 + sum ws) (omega arith))
 
 -- the two ends of a share, each within a unit of its exact place
 near_after : (g w c : ℕ) → 0 < w → (ws : List ℕ) (k : ℕ) → k < length ws → Near g w (get_or ws k 0) (get_or (shares_after g w c ws) k 0)
@@ -127,6 +130,9 @@ get_or-plus (x ∷ xs) (y ∷ ys) (suc k) e = get_or-plus xs ys k (omega arith)
 module _ (g h : ℕ) (ws vs : List ℕ) (same : length ws ≡ length vs) where
   pub same_length : length (shares g ws) ≡ length (shares h vs)
   same_length = length-shares g (sum ws) 0 ws ∙ same ∙ sym (length-shares h (sum vs) 0 vs)
+
+  pub length-finals : length (finals g h ws vs) ≡ length ws
+  length-finals = length-plus (shares g ws) (shares h vs) same_length ∙ length-shares g (sum ws) 0 ws
 
 pub finals_add_up : FinalsAddUp
 finals_add_up g h ws vs same = sum-plus (shares g ws) (shares h vs) (same_length g h ws vs same)

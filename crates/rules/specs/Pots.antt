@@ -1,12 +1,12 @@
 -- A total on its way to the lines of a group.
-use Rattle.std.specs.Prelude.{ℕ, List, sum}
-use Rattle.rules.specs.declared.sharing.Pot.{Pot}
-use Rattle.rules.specs.Shares.{up_to}
+use Rattle.std.specs.Prelude.{ℕ, List, map}
+use Rattle.rules.specs.declared.pots.Pot.{Pot}
+use Rattle.rules.specs.Shares.{shares_after, plus}
 
--- lines of weight c in all have received what is theirs
-abbrev pub pot_at : ℕ → ℕ → ℕ → Pot
-pot_at g w c = record { total = g; whole = w; served = c; given = up_to g w c }
+-- what lines of the weights ws receive, where they are next
+abbrev pub left : Pot → List ℕ → List ℕ
+left p ws = shares_after p.total p.whole p.served ws
 
--- the totals g and h before any line is served
-abbrev pub pots_of : ℕ → ℕ → List ℕ → List ℕ → Pot × Pot
-pots_of g h ws vs = (pot_at g (sum ws) 0, pot_at h (sum vs) 0)
+-- what the lines ls, which weigh f and s in the two groups, receive where they are next
+abbrev pub left_of_both : {L : Type 0} → (L → ℕ) → (L → ℕ) → Pot → Pot → List L → List ℕ
+left_of_both f s p q ls = plus (left p (map f ls)) (left q (map s ls))

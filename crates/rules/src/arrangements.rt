@@ -7,9 +7,8 @@ ghost use Rattle.rules.specs.Portions.{portion-between, parted-sided};
 ghost use Rattle.std.proofs.Common.{rules, arith};
 
 use crate::percent::Percent;
-use crate::refused::OUT_OF_RANGE;
 use crate::sharing::MOST;
-use refusals::Refusal;
+use refusals::{Cause, Layer, Refusal};
 
 /// A way to part unaccounted energy. Whoever makes one has to show the laws.
 pub trait Arrangement {
@@ -62,7 +61,7 @@ impl Percent {
         if p <= 100 {
             Ok(Percent { value: p })
         } else {
-            Err(OUT_OF_RANGE)
+            Err(Refusal::new(Cause::OutOfRange, Layer::Sheet))
         }
     }
 }

@@ -3,13 +3,14 @@
 #![tactic(auto)]
 
 pub mod arrangements;
+mod line_shares;
 pub mod lines;
 mod loads;
 pub mod obliging;
 pub mod peaks;
 pub mod percent;
+mod pots;
 mod ranges;
-mod refused;
 pub mod sharing;
 pub mod totals;
 pub mod units;

@@ -76,9 +76,12 @@ impl Basis {
         }
     }
 
+    // Inlined, with `figured`, so that `cause` divides nothing.
+    #[inline(always)]
     fn average_load(self, loss: LossFactor, figures: &[u32; 5]) -> Result<u64, Cause>
         ensures { result ≡ average_if_fits loss.value (bare self) figures.now }
     {
+        // One pass makes the sum and the number; a chain would need two.
         let mut total: u64 = 0;
         let mut number: u64 = 0;
         for figure in figures {
@@ -93,6 +96,7 @@ impl Basis {
 
 impl PeakLine {
     /// The line's weight, or the cause for which it is to be refused.
+    #[inline(always)]
     fn figured(&self) -> Result<u64, Cause>
         ensures cause { result_err result ≡ peak_cause_of self.now }
         ensures weight { result_unwrap_or result 0 ≡ weight_of self.now }

@@ -5,9 +5,8 @@ ghost use Rattle.rules.specs.Parts.{unaccounted};
 ghost use Rattle.rules.specs.Totals.{unloaded, naturals, lawful_totals, group_totals};
 
 use crate::arrangements::Arrangement;
-use crate::refused::{LOADS_TOO_HIGH, NEGATIVE_TOTAL, OUT_OF_RANGE, UNLOADED_GROUP};
 use crate::sharing::MOST;
-use refusals::Refusal;
+use refusals::{Cause, Layer, Refusal};
 
 /// Zone load less the sum of the loads.
 fn unaccounted_for(zone: u64, wi: u64, wp: u64) -> i64
@@ -36,10 +35,10 @@ fn both_natural(first: i64, second: i64) -> Result<(u64, u64), Refusal>
     ensures { result ≡ naturals first second }
 {
     if first < 0 {
-        return Err(NEGATIVE_TOTAL);
+        return Err(Refusal::new(Cause::NegativeTotal, Layer::Sharing));
     }
     if second < 0 {
-        return Err(NEGATIVE_TOTAL);
+        return Err(Refusal::new(Cause::NegativeTotal, Layer::Sharing));
     }
     Ok((first as u64, second as u64))
 }
@@ -48,7 +47,7 @@ fn lawful_totals(wi: u64, wp: u64, first: i64, second: i64) -> Result<(u64, u64)
     ensures { result ≡ lawful_totals wi wp first second }
 {
     if is_unloaded(wi, first) || is_unloaded(wp, second) {
-        Err(UNLOADED_GROUP)
+        Err(Refusal::new(Cause::UnloadedGroup, Layer::Sharing))
     } else {
         both_natural(first, second)
     }
@@ -65,10 +64,10 @@ pub fn group_totals<A: Arrangement>(
     ensures whole { IfOk result (λ t. t.0 + t.1 ≡ zone) }
 {
     if zone > MOST {
-        return Err(OUT_OF_RANGE);
+        return Err(Refusal::new(Cause::OutOfRange, Layer::Sheet));
     }
     if interval > MOST || profiled > MOST - interval {
-        return Err(LOADS_TOO_HIGH);
+        return Err(Refusal::new(Cause::LoadsTooHigh, Layer::Sharing));
     }
     let u = unaccounted_for(zone, interval, profiled);
     let (i, p) = arrangement.parts(u, interval, profiled);
