@@ -2,7 +2,7 @@
 ghost use Rattle.std.specs.Prelude.{◌≡◌};
 ghost use Rattle.book.specs.Opening.{opening, last_after, told, DaysRise};
 
-use crate::ranges::{is_day, is_hours, refused};
+use crate::ranges::{check, is_day, is_hours};
 use crate::slip::Slip;
 use crate::slip::opened::new_slip;
 use refusals::{Cause, Refusal};
@@ -10,6 +10,7 @@ use refusals::{Cause, Refusal};
 /// The book: it knows the last opened day, 0 at first.
 #[derive(Drop)]
 pub struct Book {
+    // A day is compared with it as with any other, so none opened is 0 and no Option.
     last_opened: u32,
 }
 
@@ -34,14 +35,9 @@ impl Book {
         ensures answer { told result ≡ opening self.old.last_opened day hours }
         ensures after { self.new.last_opened ≡ last_after self.old.last_opened (opening self.old.last_opened day hours) }
     {
-        let Book { last_opened } = self;
-        if !is_day(day) || !is_hours(hours) {
-            return Err(refused(Cause::OutOfRange));
-        }
-        if day <= *last_opened {
-            return Err(refused(Cause::DayNotAfter));
-        }
-        *last_opened = day;
+        check(is_day(day) && is_hours(hours), Cause::OutOfRange)?;
+        check(self.last_opened < day, Cause::DayNotAfter)?;
+        self.last_opened = day;
         Ok(new_slip(day, hours))
     }
 }

@@ -23,3 +23,4 @@ mod calls;
 mod list;
 mod places;
 mod suppliers;
+mod terms;

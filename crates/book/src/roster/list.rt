@@ -3,15 +3,7 @@ ghost use Rattle.std.specs.Prelude.{◌≡◌, length};
 ghost use Rattle.book.specs.Entries.{roll_of, empty_roll, supplier_on, somebody, LastDecides};
 ghost use Rattle.book.specs.Calls.{EntriesStay};
 
-use super::places::supplier_in;
 use super::{Entry, Roster};
-
-/// The supplier, if it is not nobody.
-fn if_anybody(supplier: u8) -> Option<u8>
-    ensures { result ≡ somebody supplier }
-{
-    if supplier == 0 { None } else { Some(supplier) }
-}
 
 impl<'a> Roster<'a> {
     /// A roster without entries. Whatever calls are made on a roster, its entries stay as they were added.
@@ -34,6 +26,7 @@ impl<'a> Roster<'a> {
         ensures answer { result ≡ somebody (supplier_on account day (roll_of self.now).entries) }
         ensures last { LastDecides }
     {
-        if_anybody(supplier_in(self.last_entry(account, Some(day))))
+        self.last_entry(account, Some(day))
+            .and_then(Entry::supplier)
     }
 }
