@@ -2,10 +2,11 @@
 ghost use Rattle.std.specs.Prelude.{◌≡◌};
 ghost use Rattle.book.specs.Opening.{opening, last_after, told, DaysRise};
 
-use crate::ranges::{check, is_day, is_hours};
+use crate::ranges::{check, is_hours};
 use crate::slip::Slip;
 use crate::slip::opened::new_slip;
 use refusals::{Cause, Refusal};
+use rows::is_day;
 
 /// The book: it knows the last opened day, 0 at first.
 #[derive(Drop)]
@@ -35,9 +36,10 @@ impl Book {
         ensures answer { told result ≡ opening self.old.last_opened day hours }
         ensures after { self.new.last_opened ≡ last_after self.old.last_opened (opening self.old.last_opened day hours) }
     {
+        let Book { last_opened } = self;
         check(is_day(day) && is_hours(hours), Cause::OutOfRange)?;
-        check(self.last_opened < day, Cause::DayNotAfter)?;
-        self.last_opened = day;
+        check(*last_opened < day, Cause::DayNotAfter)?;
+        *last_opened = day;
         Ok(new_slip(day, hours))
     }
 }

@@ -1,6 +1,6 @@
 //! The ranges of figures, and a check that refuses.
 ghost use Rattle.std.specs.Prelude.{◌≡◌, Ok};
-ghost use Rattle.book.specs.Ranges.{is_account, is_day, is_hours, is_supplier, unless};
+ghost use Rattle.book.specs.Ranges.{is_account, is_hours, unless};
 
 use refusals::{Cause, Layer, Refusal};
 
@@ -11,25 +11,11 @@ pub(crate) fn is_account(account: u32) -> bool
     (1..=999_999_999).contains(&account)
 }
 
-/// Whether a day number lies within its range.
-pub(crate) fn is_day(day: u32) -> bool
-    ensures { result ≡ is_day day }
-{
-    (1..=60_000).contains(&day)
-}
-
 /// Whether a day can have so many hours.
 pub(crate) fn is_hours(hours: u32) -> bool
     ensures { result ≡ is_hours hours }
 {
     (23..=25).contains(&hours)
-}
-
-/// Whether a number is that of a supplier.
-pub(crate) fn is_supplier(supplier: u32) -> bool
-    ensures { result ≡ is_supplier supplier }
-{
-    (1..=32).contains(&supplier)
 }
 
 /// A check of the roster or the book: where it fails, the call is refused with the cause.
@@ -39,10 +25,6 @@ pub(crate) fn check(passes: bool, cause: Cause) -> Result<(), Refusal>
     if passes {
         Ok(())
     } else {
-        Err(Refusal {
-            cause,
-            layer: Layer::Roster,
-            place: 0,
-        })
+        Err(Refusal::new(cause, Layer::Roster))
     }
 }

@@ -1,7 +1,7 @@
 //! Enrol, switch and drop.
-ghost use Rattle.std.specs.Prelude.{◌≡◌, true};
+ghost use Rattle.std.specs.Prelude.{◌≡◌, true, Ok};
 ghost use Rattle.book.specs.Entries.{roll_of, added};
-ghost use Rattle.book.specs.Calls.{has_place, timing, if_ok, enrolling, switching, dropping, to_enrol, to_switch, to_drop, after_call};
+ghost use Rattle.book.specs.Calls.{has_place, admitting, timing, if_ok, enrolling, switching, dropping, to_enrol, to_switch, to_drop, after_call};
 
 use super::{Entry, Roster};
 use crate::opening::Book;
@@ -25,11 +25,12 @@ impl<'a> Roster<'a> {
             from_day,
             supplier,
         };
-        check(entry.is_in_range(), Cause::OutOfRange)?;
-        check(self.has_place(), Cause::RosterFull)?;
+        self.admit(entry.is_in_range())?;
         let last = self.last_entry(account, None);
-        let serving = last.and_then(Entry::supplier);
-        check(serving.is_none(), Cause::AlreadyServed)?;
+        check(
+            last.and_then(Entry::supplier).is_none(),
+            Cause::AlreadyServed,
+        )?;
         self.add_after(book, last, entry)
     }
 
@@ -49,8 +50,7 @@ impl<'a> Roster<'a> {
             from_day,
             supplier,
         };
-        check(entry.is_in_range(), Cause::OutOfRange)?;
-        check(self.has_place(), Cause::RosterFull)?;
+        self.admit(entry.is_in_range())?;
         let last = self.last_entry(account, None);
         let serving = last.and_then(Entry::supplier);
         check(serving.is_some(), Cause::NotServed)?;
@@ -68,12 +68,18 @@ impl<'a> Roster<'a> {
             from_day,
             supplier: 0,
         };
-        check(entry.is_dated(), Cause::OutOfRange)?;
-        check(self.has_place(), Cause::RosterFull)?;
+        self.admit(entry.is_dated())?;
         let last = self.last_entry(account, None);
-        let serving = last.and_then(Entry::supplier);
-        check(serving.is_some(), Cause::NotServed)?;
+        check(last.and_then(Entry::supplier).is_some(), Cause::NotServed)?;
         self.add_after(book, last, entry)
+    }
+
+    /// The checks that come first: the figures are within their ranges, and a place is left.
+    fn admit(&self, in_range: bool) -> Result<(), Refusal>
+        ensures { result ≡ admitting (roll_of self.now) in_range (Ok tt) }
+    {
+        check(in_range, Cause::OutOfRange)?;
+        check(self.has_place(), Cause::RosterFull)
     }
 
     /// Puts an entry last if its from-day is after that of the account's last entry and after the last opened day.
