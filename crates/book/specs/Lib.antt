@@ -3,6 +3,7 @@ pub mod Ranges
 pub mod Slips
 pub mod Opening
 pub mod Entries
+pub mod Rolls
 pub mod Calls
 pub mod Sheets
 pub mod Checks

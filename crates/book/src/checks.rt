@@ -1,7 +1,6 @@
 //! The lines of a sheet, checked in turn.
 ghost use Rattle.std.specs.Prelude.{◌≡◌, ◌≤◌, map, length, take, Option as OptionT, OnOk};
 ghost use Rattle.refusals.specs.declared.Cause.{Cause as CauseT};
-ghost use Rattle.book.specs.Entries.{roll_of};
 ghost use Rattle.book.specs.Sheets.{suppliers_on};
 ghost use Rattle.book.specs.Checks.{sheet_line, line_cause, checked_lines};
 
@@ -56,8 +55,8 @@ pub(crate) fn check_sheet<L: Checked>(
     table: &mut [u8],
 ) -> Result<(), Refusal>
     requires { length lines.now ≤ length table.old }
-    ensures answer { result ≡ checked_lines (map (λ l. sheet_line (L.account_of l) (L.cause_in l)) lines.now) (suppliers_on day (roll_of roster.now).entries (map L.account_of lines.now)) }
-    ensures told { OnOk result (take (length lines.now) table.new ≡ suppliers_on day (roll_of roster.now).entries (map L.account_of lines.now)) }
+    ensures answer { result ≡ checked_lines (map (λ l. sheet_line (L.account_of l) (L.cause_in l)) lines.now) (suppliers_on day roster.now.entries (map L.account_of lines.now)) }
+    ensures told { OnOk result (take (length lines.now) table.new ≡ suppliers_on day roster.now.entries (map L.account_of lines.now)) }
 {
     roster.suppliers(lines, day, table);
     check_lines(lines, table)

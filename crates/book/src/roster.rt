@@ -1,5 +1,6 @@
 //! The roster: which supplier serves an account, from which day on.
-ghost use Rattle.std.specs.Prelude.{◌≤◌, length};
+
+use std::marker::Model;
 
 /// From a day on, a supplier serves an account. Supplier 0, or any outside 1 to 32, is nobody.
 #[derive(Clone, Copy)]
@@ -15,8 +16,19 @@ pub struct Entry {
 pub struct Roster<'a> {
     memory: &'a mut [Entry],
     count: usize,
-    ghost held: { count ≤ length memory.now },
-    ghost few: { count ≤ 65536 },
+}
+
+impl<'a> Model for Roster<'a> {
+    ghost use Rattle.std.specs.Prelude.{◌≤◌, length};
+    ghost use Rattle.book.specs.Entries.{Roll};
+
+    ghost Value = { Roll };
+
+    ghost use Rattle.book.specs.Rolls.{roll_of};
+
+    ghost view = { roll_of };
+
+    ghost invariant = { λ r. (r.count ≤ length r.memory.now) × (r.count ≤ 65536) };
 }
 
 mod calls;

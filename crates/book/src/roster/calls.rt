@@ -1,6 +1,6 @@
 //! Enrol, switch and drop.
 ghost use Rattle.std.specs.Prelude.{◌≡◌, true, Ok};
-ghost use Rattle.book.specs.Entries.{roll_of, added};
+ghost use Rattle.book.specs.Entries.{added};
 ghost use Rattle.book.specs.Calls.{has_place, admitting, timing, if_ok, enrolling, switching, dropping, to_enrol, to_switch, to_drop, after_call};
 
 use super::{Entry, Roster};
@@ -17,8 +17,8 @@ impl<'a> Roster<'a> {
         from_day: u32,
         supplier: u32,
     ) -> Result<(), Refusal>
-        ensures answer { result ≡ enrolling book.now.last_opened (roll_of self.old) account from_day supplier }
-        ensures after { roll_of self.new ≡ after_call (roll_of self.old) (to_enrol book.now.last_opened account from_day supplier) }
+        ensures answer { result ≡ enrolling book.now.last_opened self.old account from_day supplier }
+        ensures after { self.new ≡ after_call self.old (to_enrol book.now.last_opened account from_day supplier) }
     {
         let entry = Entry {
             account,
@@ -42,8 +42,8 @@ impl<'a> Roster<'a> {
         from_day: u32,
         supplier: u32,
     ) -> Result<(), Refusal>
-        ensures answer { result ≡ switching book.now.last_opened (roll_of self.old) account from_day supplier }
-        ensures after { roll_of self.new ≡ after_call (roll_of self.old) (to_switch book.now.last_opened account from_day supplier) }
+        ensures answer { result ≡ switching book.now.last_opened self.old account from_day supplier }
+        ensures after { self.new ≡ after_call self.old (to_switch book.now.last_opened account from_day supplier) }
     {
         let entry = Entry {
             account,
@@ -60,8 +60,8 @@ impl<'a> Roster<'a> {
 
     /// Ends the service of a served account: adds an entry with supplier 0.
     pub fn drop(&mut self, book: &Book, account: u32, from_day: u32) -> Result<(), Refusal>
-        ensures answer { result ≡ dropping book.now.last_opened (roll_of self.old) account from_day }
-        ensures after { roll_of self.new ≡ after_call (roll_of self.old) (to_drop book.now.last_opened account from_day) }
+        ensures answer { result ≡ dropping book.now.last_opened self.old account from_day }
+        ensures after { self.new ≡ after_call self.old (to_drop book.now.last_opened account from_day) }
     {
         let entry = Entry {
             account,
@@ -76,7 +76,7 @@ impl<'a> Roster<'a> {
 
     /// The checks that come first: the figures are within their ranges, and a place is left.
     fn admit(&self, in_range: bool) -> Result<(), Refusal>
-        ensures { result ≡ admitting (roll_of self.now) in_range (Ok tt) }
+        ensures { result ≡ admitting self.now in_range (Ok tt) }
     {
         check(in_range, Cause::OutOfRange)?;
         check(self.has_place(), Cause::RosterFull)
@@ -84,9 +84,9 @@ impl<'a> Roster<'a> {
 
     /// Puts an entry last if its from-day is after that of the account's last entry and after the last opened day.
     fn add_after(&mut self, book: &Book, last: Option<Entry>, entry: Entry) -> Result<(), Refusal>
-        requires { has_place (roll_of self.old) ≡ true }
+        requires { has_place self.old ≡ true }
         ensures answer { result ≡ timing book.now.last_opened last entry.from_day }
-        ensures after { roll_of self.new ≡ if_ok result (added (roll_of self.old) entry) (roll_of self.old) }
+        ensures after { self.new ≡ if_ok result (added self.old entry) self.old }
     {
         let is_after = last.is_none_or(|before| before.from_day < entry.from_day);
         check(is_after, Cause::NotAfterLastEntry)?;

@@ -1,6 +1,6 @@
 //! The roster as its user sees it: a list of entries that tells an account's supplier on a day.
 ghost use Rattle.std.specs.Prelude.{◌≡◌, length};
-ghost use Rattle.book.specs.Entries.{roll_of, empty_roll, supplier_on, somebody, LastDecides};
+ghost use Rattle.book.specs.Entries.{empty_roll, supplier_on, somebody, LastDecides};
 ghost use Rattle.book.specs.Calls.{EntriesStay};
 
 use super::{Entry, Roster};
@@ -8,7 +8,7 @@ use super::{Entry, Roster};
 impl<'a> Roster<'a> {
     /// A roster without entries. Whatever calls are made on a roster, its entries stay as they were added.
     pub fn new(memory: &'a mut [Entry]) -> Roster<'a>
-        ensures empty { roll_of result ≡ empty_roll memory.old }
+        ensures empty { result ≡ empty_roll memory.old }
         ensures stays { EntriesStay }
     {
         Roster { memory, count: 0 }
@@ -16,14 +16,14 @@ impl<'a> Roster<'a> {
 
     /// How many entries there are.
     pub fn count(&self) -> usize
-        ensures { result ≡ length (roll_of self.now).entries }
+        ensures { result ≡ length self.now.entries }
     {
         self.count
     }
 
     /// The supplier of an account on a day, if somebody serves it. The last entry that fits decides.
     pub fn supplier_on(&self, account: u32, day: u32) -> Option<u8>
-        ensures answer { result ≡ somebody (supplier_on account day (roll_of self.now).entries) }
+        ensures answer { result ≡ somebody (supplier_on account day self.now.entries) }
         ensures last { LastDecides }
     {
         self.last_entry(account, Some(day))

@@ -1,6 +1,6 @@
 //! The places of the list: whether one is left, an entry in the next one, an account's last entry.
 ghost use Rattle.std.specs.Prelude.{◌≡◌, true};
-ghost use Rattle.book.specs.Entries.{roll_of, added, last_entry};
+ghost use Rattle.book.specs.Entries.{added, last_entry};
 ghost use Rattle.book.specs.Calls.{has_place};
 
 use super::{Entry, Roster};
@@ -11,15 +11,15 @@ const MOST: usize = 65_536;
 impl<'a> Roster<'a> {
     /// Whether there is a place for one more.
     pub(super) fn has_place(&self) -> bool
-        ensures { result ≡ has_place (roll_of self.now) }
+        ensures { result ≡ has_place self.now }
     {
         self.count < MOST && self.count < self.memory.len()
     }
 
     /// Puts an entry last.
     pub(super) fn add(&mut self, entry: Entry)
-        requires { has_place (roll_of self.old) ≡ true }
-        ensures { roll_of self.new ≡ added (roll_of self.old) entry }
+        requires { has_place self.old ≡ true }
+        ensures { self.new ≡ added self.old entry }
     {
         self.memory[self.count] = entry;
         self.count += 1;
@@ -27,7 +27,7 @@ impl<'a> Roster<'a> {
 
     /// The account's last entry; if a day is given, the last of those whose from-day is not after it.
     pub(super) fn last_entry(&self, account: u32, by: Option<u32>) -> Option<Entry>
-        ensures { result ≡ last_entry account by (roll_of self.now).entries }
+        ensures { result ≡ last_entry account by self.now.entries }
     {
         self.memory[..self.count]
             .iter()

@@ -1,6 +1,5 @@
 //! The suppliers of a whole sheet in one pass over the entries.
 ghost use Rattle.std.specs.Prelude.{◌≡◌, map, length};
-ghost use Rattle.book.specs.Entries.{roll_of};
 ghost use Rattle.book.specs.Rising.{Rising};
 ghost use Rattle.book.specs.Sheets.{suppliers_on, lines_told, table_on};
 
@@ -12,7 +11,7 @@ impl<'a> Roster<'a> {
     /// whose account is not above that of the line before it, as far as the table reaches. Answers how many these are.
     pub fn suppliers<L: Accounted>(&self, lines: &[L], day: u32, table: &mut [u8]) -> usize
         ensures answer { result ≡ lines_told (map L.account_of lines.now) table.old }
-        ensures after { table.new ≡ table_on day (roll_of self.now).entries (map L.account_of lines.now) table.old }
+        ensures after { table.new ≡ table_on day self.now.entries (map L.account_of lines.now) table.old }
     {
         let n = rising_front(lines).min(table.len());
         self.enter_suppliers(&lines[..n], day, &mut table[..n]);
@@ -23,7 +22,7 @@ impl<'a> Roster<'a> {
     fn enter_suppliers<L: Accounted>(&self, lines: &[L], day: u32, table: &mut [u8])
         requires long { length table.old ≡ length lines.now }
         requires rises { Rising (map L.account_of lines.now) }
-        ensures { table.new ≡ suppliers_on day (roll_of self.now).entries (map L.account_of lines.now) }
+        ensures { table.new ≡ suppliers_on day self.now.entries (map L.account_of lines.now) }
     {
         table.fill(0);
         for entry in &self.memory[..self.count] {

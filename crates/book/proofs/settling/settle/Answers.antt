@@ -8,7 +8,6 @@ use Rattle.archive.specs.Adjusting.{booking}
 use Rattle.archive.proofs.Answered.{kept_old}
 use Rattle.rules.specs.Lines.{energy}
 use Rattle.rules.proofs.Settled.{totals-told}
-use Rattle.book.specs.Entries.{roll_of}
 use Rattle.book.specs.Slips.{slip_of, marked}
 use Rattle.book.specs.Settling.{Hour, hour_of, owed_in, slot_in, final_loads, admitted, next}
 use Rattle.book.proofs.Admitting.{admitted-hour}
@@ -18,13 +17,13 @@ use Rattle.book.proofs.settling.settle.Goals as goal
 
 pub overflow_cast-slot-2 : goal.overflow_cast-slot-2
 overflow_cast-slot-2 g c =
-    let h : Hour = hour_of (g.R.Arrangement.meaning c.args.arrangement.now) (slip_of c.args.slip.now) c.args.hour c.args.zone_load c.args.sheet.now (roll_of c.args.roster.now).entries in
+    let h : Hour = hour_of (g.R.Arrangement.meaning c.args.arrangement.now) (slip_of c.args.slip.now) c.args.hour c.args.zone_load c.args.sheet.now c.args.roster.now.entries in
     let ok = admitted-hour h (length c.args.list.now) (owed_in h) c.in_ok-owed.owed c.in_ok-owed.ensures in
     omega (arith, order_parts h.slip.hours h.hour h.zone (length h.sheet) ok.order, c.args.slip.now.short)
 
 pub returns-in_err-owed : goal.returns-in_err-owed
 returns-in_err-owed g c =
-    let h : Hour = hour_of (g.R.Arrangement.meaning c.args.arrangement.now) (slip_of c.args.slip.now) c.args.hour c.args.zone_load c.args.sheet.now (roll_of c.args.roster.now).entries in
+    let h : Hour = hour_of (g.R.Arrangement.meaning c.args.arrangement.now) (slip_of c.args.slip.now) c.args.hour c.args.zone_load c.args.sheet.now c.args.roster.now.entries in
     let p = err_from_is_err_and c.from_residual.result c.from_residual.ensures.1 in
     let refused = p.1 ∙ ap Err p.2 in
     let a = ap (λ x. next x (booking (g.A.Archive.meaning c.args.archive.now) (slot_in h) (owed_in h))) (owed_refused (admitted h (length c.args.list.now)) (owed_in h) _ c.in_err-owed.ensures) in
@@ -41,7 +40,7 @@ returns-in_err-owed g c =
 
 pub returns-in_err-rows : goal.returns-in_err-rows
 returns-in_err-rows g c =
-    let h : Hour = hour_of (g.R.Arrangement.meaning c.args.arrangement.now) (slip_of c.args.slip.now) c.args.hour c.args.zone_load c.args.sheet.now (roll_of c.args.roster.now).entries in
+    let h : Hour = hour_of (g.R.Arrangement.meaning c.args.arrangement.now) (slip_of c.args.slip.now) c.args.hour c.args.zone_load c.args.sheet.now c.args.roster.now.entries in
     let s = c.args.slip.now in
     let before = g.A.Archive.meaning c.args.archive.now in
     let ok = admitted-hour h (length c.args.list.now) (owed_in h) c.in_ok-owed.owed c.in_ok-owed.ensures in
@@ -65,14 +64,14 @@ returns-in_err-rows g c =
 
 pub mark-requires : goal.mark-requires
 mark-requires g c =
-    let h : Hour = hour_of (g.R.Arrangement.meaning c.args.arrangement.now) (slip_of c.args.slip.now) c.args.hour c.args.zone_load c.args.sheet.now (roll_of c.args.roster.now).entries in
+    let h : Hour = hour_of (g.R.Arrangement.meaning c.args.arrangement.now) (slip_of c.args.slip.now) c.args.hour c.args.zone_load c.args.sheet.now c.args.roster.now.entries in
     let ok = admitted-hour h (length c.args.list.now) (owed_in h) c.in_ok-owed.owed c.in_ok-owed.ensures in
     let order = order_parts h.slip.hours h.hour h.zone (length h.sheet) ok.order in
     (omega arith, (order.0, order.1))
 
 pub returns : goal.returns
 returns g c =
-    let h : Hour = hour_of (g.R.Arrangement.meaning c.args.arrangement.now) (slip_of c.args.slip.now) c.args.hour c.args.zone_load c.args.sheet.now (roll_of c.args.roster.now).entries in
+    let h : Hour = hour_of (g.R.Arrangement.meaning c.args.arrangement.now) (slip_of c.args.slip.now) c.args.hour c.args.zone_load c.args.sheet.now c.args.roster.now.entries in
     let s = c.args.slip.now in
     let before = g.A.Archive.meaning c.args.archive.now in
     let ok = admitted-hour h (length c.args.list.now) (owed_in h) c.in_ok-owed.owed c.in_ok-owed.ensures in

@@ -14,7 +14,7 @@ loop-entry-init g c =
 
 pub loop-entry-preserved : goal.loop-entry-preserved
 loop-entry-preserved g c =
-    let es = take c.args.self.now.count c.args.self.now.memory.now in
+    let es = take c.self.inside.count c.self.inside.memory.now in
     let accounts = map g.L.Accounted.account_of c.args.lines.now in
     let i = c.loop-entry.entry-index in
     let none = entry 0 0 0 in

@@ -1,4 +1,4 @@
-use Rattle.std.proofs.Common.{◌≤◌, map, length, take, None, sym, subst, ap, ◌∙◌, arith}
+use Rattle.std.proofs.Common.{◌≤◌, map, length, None, sym, subst, ap, ◌∙◌, arith}
 use Rattle.std.proofs.lemmas.List.{length-map, length-take-le, take-map}
 use Rattle.book.specs.Rising.{Rising}
 use Rattle.book.specs.Sheets.{rising_front, suppliers_on}
@@ -29,6 +29,6 @@ pub returns-clause-after : goal.returns-clause-after
 returns-clause-after g c =
     let f = g.L.Accounted.account_of in
     let n = c.min-n.result in
-    table_told c.args.day n (take c.args.self.now.count c.args.self.now.memory.now) (map f c.args.lines.now) c.args.table.now c.enter_suppliers.new.table
+    table_told c.args.day n c.args.self.now.entries (map f c.args.lines.now) c.args.table.now c.enter_suppliers.new.table
     (omega (arith, c.min-n.ensures, c.rising_front.ensures))
-    (c.enter_suppliers.ensures ∙ ap (suppliers_on c.args.day (take c.args.self.now.count c.args.self.now.memory.now)) (sym (take-map f n c.args.lines.now)))
+    (c.enter_suppliers.ensures ∙ ap (suppliers_on c.args.day c.args.self.now.entries) (sym (take-map f n c.args.lines.now)))
