@@ -1,5 +1,5 @@
 //! The roster as its user sees it: a list of entries that tells an account's supplier on a day.
-ghost use Rattle.std.specs.Prelude.{◌≡◌, length};
+ghost use Rattle.std.specs.Prelude.{◌≡◌, ◌≤◌, length};
 ghost use Rattle.book.specs.Entries.{empty_roll, supplier_on, somebody, LastDecides};
 ghost use Rattle.book.specs.Calls.{EntriesStay};
 
@@ -14,9 +14,10 @@ impl<'a> Roster<'a> {
         Roster { memory, count: 0 }
     }
 
-    /// How many entries there are.
+    /// How many entries there are, 65,536 at most.
     pub fn count(&self) -> usize
-        ensures { result ≡ length self.now.entries }
+        ensures answer { result ≡ length self.now.entries }
+        ensures few { result ≤ 65536 }
     {
         self.count
     }
