@@ -1,6 +1,7 @@
 pub mod Rising
 pub mod Ranges
 pub mod Slips
+pub mod DaySlips
 pub mod Opening
 pub mod Entries
 pub mod Rolls

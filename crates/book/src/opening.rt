@@ -1,6 +1,6 @@
 //! The book of days.
 ghost use Rattle.std.specs.Prelude.{◌≡◌};
-ghost use Rattle.book.specs.Opening.{opening, last_after, told, DaysRise};
+ghost use Rattle.book.specs.Opening.{opening, last_after, DaysRise};
 
 use crate::ranges::{check, is_hours};
 use crate::slip::Slip;
@@ -33,7 +33,7 @@ impl Book {
 
     /// Opens a day of so many hours: gives its slip of stage 1.
     pub fn open(&mut self, day: u32, hours: u32) -> Result<Slip<1>, Refusal>
-        ensures answer { told result ≡ opening self.old.last_opened day hours }
+        ensures answer { result ≡ opening self.old.last_opened day hours }
         ensures after { self.new.last_opened ≡ last_after self.old.last_opened (opening self.old.last_opened day hours) }
     {
         let Book { last_opened } = self;

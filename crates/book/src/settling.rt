@@ -5,7 +5,6 @@ ghost use Rattle.rules.specs.Lines.{account_of, cause_of, interval_weight, profi
 ghost use Rattle.rules.specs.Totals.{group_totals};
 ghost use Rattle.archive.specs.Contents.{kept};
 ghost use Rattle.archive.specs.Intake.{entered};
-ghost use Rattle.book.specs.Slips.{slip_of};
 ghost use Rattle.book.specs.Settled.{Settled, SettlingLaw};
 ghost use Rattle.book.specs.Settling.{hour_of, in_order, admitted, owed, owed_in, rows_in, settling, settled_archive, settled_list, settled_slip};
 
@@ -74,7 +73,7 @@ fn hour_owed<const STAGE: u8, R: Arrangement>(
     arrangement: &R,
     places: usize,
 ) -> Result<Owed, Refusal>
-    ensures { result ≡ owed (admitted (hour_of (R.meaning arrangement.now) (slip_of slip.now) hour zone_load sheet.now roster.now.entries) places) (owed_in (hour_of (R.meaning arrangement.now) (slip_of slip.now) hour zone_load sheet.now roster.now.entries)) }
+    ensures { result ≡ owed (admitted (hour_of (R.meaning arrangement.now) slip.now hour zone_load sheet.now roster.now.entries) places) (owed_in (hour_of (R.meaning arrangement.now) slip.now hour zone_load sheet.now roster.now.entries)) }
 {
     if !is_in_order(slip.hours(), hour, zone_load, sheet.len()) {
         return Err(Refusal::new(Cause::OutOfRange, Layer::Sheet));
@@ -110,13 +109,13 @@ pub(crate) fn settle<const STAGE: u8, R: Arrangement, A: Archive>(
     archive: &mut A,
     list: &mut [Energy],
 ) -> Result<usize, Refusal>
-    ensures answer { result ≡ settling (hour_of (R.Arrangement.meaning arrangement.now) (slip_of slip.old) hour zone_load sheet.now roster.now.entries) (length list.old) (A.Archive.meaning archive.old) }
-    ensures archive { A.Archive.meaning archive.new ≡ settled_archive (hour_of (R.Arrangement.meaning arrangement.now) (slip_of slip.old) hour zone_load sheet.now roster.now.entries) (length list.old) (A.Archive.meaning archive.old) }
-    ensures list { list.new ≡ settled_list (hour_of (R.Arrangement.meaning arrangement.now) (slip_of slip.old) hour zone_load sheet.now roster.now.entries) list.old (A.Archive.meaning archive.old) }
-    ensures slip { slip_of slip.new ≡ settled_slip (hour_of (R.Arrangement.meaning arrangement.now) (slip_of slip.old) hour zone_load sheet.now roster.now.entries) (length list.old) (A.Archive.meaning archive.old) }
-    ensures memory { A.Archive.memory archive.new ≡ kept result (entered A.Archive.stamped (A.Archive.memory archive.old) (length (A.Archive.meaning archive.old).rows) (rows_in (hour_of (R.Arrangement.meaning arrangement.now) (slip_of slip.old) hour zone_load sheet.now roster.now.entries) (A.Archive.meaning archive.old))) (A.Archive.memory archive.old) }
+    ensures answer { result ≡ settling (hour_of (R.Arrangement.meaning arrangement.now) slip.old hour zone_load sheet.now roster.now.entries) (length list.old) (A.Archive.meaning archive.old) }
+    ensures archive { A.Archive.meaning archive.new ≡ settled_archive (hour_of (R.Arrangement.meaning arrangement.now) slip.old hour zone_load sheet.now roster.now.entries) (length list.old) (A.Archive.meaning archive.old) }
+    ensures list { list.new ≡ settled_list (hour_of (R.Arrangement.meaning arrangement.now) slip.old hour zone_load sheet.now roster.now.entries) list.old (A.Archive.meaning archive.old) }
+    ensures slip { slip.new ≡ settled_slip (hour_of (R.Arrangement.meaning arrangement.now) slip.old hour zone_load sheet.now roster.now.entries) (length list.old) (A.Archive.meaning archive.old) }
+    ensures memory { A.Archive.memory archive.new ≡ kept result (entered A.Archive.stamped (A.Archive.memory archive.old) (length (A.Archive.meaning archive.old).rows) (rows_in (hour_of (R.Arrangement.meaning arrangement.now) slip.old hour zone_load sheet.now roster.now.entries) (A.Archive.meaning archive.old))) (A.Archive.memory archive.old) }
     ensures lent { A.Archive.lent archive.new ≡ A.Archive.lent archive.old }
-    ensures settled { OnOk result (Settled (hour_of (R.Arrangement.meaning arrangement.now) (slip_of slip.old) hour zone_load sheet.now roster.now.entries) (A.Archive.meaning archive.old).rows (A.Archive.meaning archive.new).rows) }
+    ensures settled { OnOk result (Settled (hour_of (R.Arrangement.meaning arrangement.now) slip.old hour zone_load sheet.now roster.now.entries) (A.Archive.meaning archive.old).rows (A.Archive.meaning archive.new).rows) }
     ensures law { SettlingLaw }
 {
     // What an archive holds is lawful: its count says so.
