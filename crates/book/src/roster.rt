@@ -7,6 +7,7 @@ use std::marker::Model;
 pub struct Entry {
     pub account: u32,
     pub from_day: u32,
+    // Entries lie in the user's memory as they came in, so nobody is a number here and no Option.
     pub supplier: u32,
 }
 
@@ -14,6 +15,7 @@ pub struct Entry {
 /// Entries are only added.
 #[derive(Drop)]
 pub struct Roster<'a> {
+    // No Vec: library crates take no heap, so the user lends the memory, and the count stands beside it.
     memory: &'a mut [Entry],
     count: usize,
 }

@@ -6,6 +6,7 @@ ghost use Rattle.book.specs.Sheets.{suppliers_on, lines_told, table_on};
 use super::Roster;
 use crate::sheet::{Accounted, place_of, rising_front};
 
+// The table stands beside the lines, with 0 for nobody: its user lends it, one byte a line.
 impl<'a> Roster<'a> {
     /// Writes the supplier of each line's account on a day into the table, 0 for nobody: for the lines before the first
     /// whose account is not above that of the line before it, as far as the table reaches. Answers how many these are.
@@ -29,7 +30,6 @@ impl<'a> Roster<'a> {
             if entry.from_day <= day
                 && let Some(place) = place_of(lines, entry.account)
             {
-                // A line has one byte in the table, so nobody is 0 there.
                 table[place] = entry.supplier().unwrap_or(0);
             }
         }

@@ -11,9 +11,6 @@ use Rattle.book.specs.Checks.{sheet_line, line_cause, checked_from}
 use Rattle.book.proofs.Checking.{pairs_turn, check_stops, check_goes_on, check_ends}
 use Rattle.book.proofs.checks.check_lines.Goals as goal
 
-pub loop-i-init : goal.loop-i-init
-loop-i-init g c = refl
-
 pub returns-in-Some-line_cause : goal.returns-in-Some-line_cause
 returns-in-Some-line_cause g c =
     let lines = c.args.lines.now in

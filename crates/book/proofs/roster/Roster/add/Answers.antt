@@ -9,10 +9,6 @@ pub bounds-self-inside-self-inside : goal.bounds-self-inside-self-inside
 bounds-self-inside-self-inside c =
     (place_parts c.self.inside.count c.self.inside.memory.now c.self.invariant.0 (ap has_place c.self.view_is ∙ c.requires)).1
 
-pub offset_bounds-self-inside-self-inside : goal.offset_bounds-self-inside-self-inside
-offset_bounds-self-inside-self-inside c =
-    omega (arith, c.self.told, c.self.invariant.0)
-
 pub invariant_of-self : goal.invariant_of-self
 invariant_of-self c =
     let n = c.self.inside.count in

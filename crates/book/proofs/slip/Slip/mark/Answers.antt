@@ -4,9 +4,6 @@ use Rattle.book.specs.Slips.{marked}
 use Rattle.book.proofs.Marks.{mark_is, marked_within, marks_one}
 use Rattle.book.proofs.slip.Slip.mark.Goals as goal
 
-pub overflow_shl-settled : goal.overflow_shl-settled
-overflow_shl-settled g c = omega (arith, ap (λ s. s.hours) c.self.view_is, c.requires.within, c.self.invariant.timed)
-
 pub invariant_of-self : goal.invariant_of-self
 invariant_of-self g c =
     let s = c.self.inside in
