@@ -1,15 +1,8 @@
 //! The ranges of figures, and a check that refuses.
 ghost use Rattle.std.specs.Prelude.{◌≡◌, Ok};
-ghost use Rattle.book.specs.Ranges.{is_account, is_hours, unless};
+ghost use Rattle.book.specs.Ranges.{is_hours, unless};
 
 use refusals::{Cause, Layer, Refusal};
-
-/// Whether an account lies within its range.
-pub(crate) fn is_account(account: u32) -> bool
-    ensures { result ≡ is_account account }
-{
-    (1..=999_999_999).contains(&account)
-}
 
 /// Whether a day can have so many hours.
 pub(crate) fn is_hours(hours: u32) -> bool

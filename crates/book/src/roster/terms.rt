@@ -4,8 +4,8 @@ ghost use Rattle.book.specs.Ranges.{are_dated, are_terms};
 ghost use Rattle.book.specs.Entries.{concerns, somebody, supplier_in};
 
 use super::Entry;
-use crate::ranges::is_account;
 use rows::{is_day, is_supplier};
+use rules::is_account;
 
 impl Entry {
     /// Whether it is an entry of the account; if a day is given, one whose from-day is not after it.
