@@ -2,6 +2,7 @@
 use Rattle.std.proofs.Common.{◌≡◌, ℕ, suc, ◌+◌, ◌<◌, ◌≤◌, Bool, true, false, cond, eqb, List, [], ◌∷◌, ◌++◌, map, length, get_or, take, drop, IfOk, Some, None, Ok, Err, Option, Result, sym, refl, ap, ◌∙◌, ⊎_elim, arith}
 use Rattle.std.specs.List.{AllByRecursion, enumerate_from, zip}
 use Rattle.std.proofs.lemmas.List.{drop_all, drop_more, get_or_default, length-map, length-take-le, take_all, take_at, take-map}
+use Rattle.std.proofs.lemmas.Simd.{map-map}
 use Rattle.std.proofs.lemmas.List.FromFn.{length-enumerate_from, get_or-enumerate_from}
 use Rattle.std.proofs.lemmas.Slice.Zip.{length-zip, get_or-zip}
 use Rattle.std.proofs.lemmas.Bool.{cases_Bool, eqb-false}
@@ -157,10 +158,6 @@ module _ (day : ℕ) (entries : List Entry) (ls : List SheetLine) (old table : L
       let all = all_rise 1 None ls served (omega (arith, length_served)) e in
       ap (λ n. take n table) (sym all) ∙ table_front ∙ ap (λ n. take n served) all ∙ take_all (length ls) served (omega (arith, length_served))
 
-accounts_of : {L : Type 0} (f : L → SheetLine) (ls : List L) → accounts (map f ls) ≡ map (λ l. (f l).account) ls
-accounts_of f [] = refl
-accounts_of f (l ∷ ls) = ap (λ t. (f l).account ∷ t) (accounts_of f ls)
-
 -- what the lines of any kind are answered by the table, and that it then holds their suppliers
 module _ {L : Type 0} (f : L → SheetLine) (day : ℕ) (entries : List Entry) (lines : List L) (old table : List ℕ) (long : length lines ≤ length old) (still : length lines ≤ length table) (told : table ≡ table_on day entries (map (λ l. (f l).account) lines) old) where
   abbrev suppliers : List ℕ
@@ -170,10 +167,10 @@ module _ {L : Type 0} (f : L → SheetLine) (day : ℕ) (entries : List Entry) (
   long_sheet = omega (arith, length-map lines f)
 
   told-sheet : table ≡ table_on day entries (accounts (map f lines)) old
-  told-sheet = told ∙ sym (ap (λ t. table_on day entries t old) (accounts_of f lines))
+  told-sheet = told ∙ sym (ap (λ t. table_on day entries t old) (map-map (λ l. l.account) f lines))
 
   same_served : suppliers_on day entries (accounts (map f lines)) ≡ suppliers
-  same_served = ap (suppliers_on day entries) (accounts_of f lines)
+  same_served = ap (suppliers_on day entries) (map-map (λ l. l.account) f lines)
 
   pub sheet_checked : checked_lines (map f lines) table ≡ checked_lines (map f lines) (suppliers_on day entries (map (λ l. (f l).account) lines))
   sheet_checked =
