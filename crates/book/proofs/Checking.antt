@@ -1,7 +1,10 @@
 -- The lines of a sheet in turn, by a table that is right for the lines that rise.
 use Rattle.std.proofs.Common.{◌≡◌, ℕ, suc, ◌+◌, ◌<◌, ◌≤◌, Bool, true, false, cond, eqb, List, [], ◌∷◌, ◌++◌, map, length, get_or, take, drop, IfOk, Some, None, Ok, Err, Option, Result, sym, refl, ap, ◌∙◌, ⊎_elim, arith}
-use Rattle.std.specs.List.{AllByRecursion}
-use Rattle.std.proofs.lemmas.List.{drop_all, drop_more, length-map, length-take-le, take_all, take_at, take-map}
+use Rattle.std.specs.List.{AllByRecursion, enumerate_from, zip}
+use Rattle.std.proofs.lemmas.List.{drop_all, drop_more, get_or_default, length-map, length-take-le, take_all, take_at, take-map}
+use Rattle.std.proofs.lemmas.Simd.{map-map}
+use Rattle.std.proofs.lemmas.List.FromFn.{length-enumerate_from, get_or-enumerate_from}
+use Rattle.std.proofs.lemmas.Slice.Zip.{length-zip, get_or-zip}
 use Rattle.std.proofs.lemmas.Bool.{cases_Bool, eqb-false}
 use Rattle.refusals.specs.declared.Refusal.{Refusal}
 use Rattle.refusals.specs.declared.Cause.{Cause}
@@ -12,6 +15,21 @@ use Rattle.book.specs.declared.roster.Entry.{Entry}
 use Rattle.book.specs.Sheets.{is_above, rising_after, rising_front, suppliers_on, lines_told, table_on}
 use Rattle.book.specs.Checks.{SheetLine, is_range, or_nobody, line_cause, refused_or, checked_from, checked_lines}
 use Rattle.book.proofs.Fronts.{front_le}
+
+-- the lines and their suppliers in pairs, numbered: the n-th
+pub pairs_turn : {L : Type 0} (ls : List L) (ss : List ℕ) (n i : ℕ) (l : L) (s : ℕ) → length ls ≤ length ss
+    → (n < length (enumerate_from 0 (zip ls ss))) × ((i, (l, s)) ≡ get_or (enumerate_from 0 (zip ls ss)) n (i, (l, s)))
+    → (n < length ls) × (i ≡ n) × (l ≡ get_or ls n l) × (s ≡ get_or ss n 0)
+pairs_turn ls ss n i l s long t =
+    let short : n < length ls = omega (arith, t.0, length-enumerate_from 0 (zip ls ss), length-zip ls ss) in
+    let within : n < length ss = omega arith in
+    let number : 0 + n ≡ n = omega arith in
+    let is : (i, (l, s)) ≡ (n, (get_or ls n l, get_or ss n s)) =
+    t.1
+    ∙ get_or-enumerate_from 0 (zip ls ss) n (i, (l, s)) (omega (arith, length-zip ls ss))
+    ∙ ap (λ k. (k, get_or (zip ls ss) n (l, s))) number
+    ∙ ap (λ p. (n, p)) (get_or-zip ls ss n (l, s) short within) in
+    (short, ap (λ p. p.0) is, ap (λ p. p.1.0) is, ap (λ p. p.1.1) is ∙ get_or_default ss n s 0 within)
 
 -- one line of a sheet whose checks have come to the i-th
 module _ {L : Type 0} (f : L → SheetLine) (ls : List L) (ss : List ℕ) (i : ℕ) (l : L) (lt : i < length ls) (long : length ls ≤ length ss) (at : l ≡ get_or ls i l) where
@@ -140,10 +158,6 @@ module _ (day : ℕ) (entries : List Entry) (ls : List SheetLine) (old table : L
       let all = all_rise 1 None ls served (omega (arith, length_served)) e in
       ap (λ n. take n table) (sym all) ∙ table_front ∙ ap (λ n. take n served) all ∙ take_all (length ls) served (omega (arith, length_served))
 
-accounts_of : {L : Type 0} (f : L → SheetLine) (ls : List L) → accounts (map f ls) ≡ map (λ l. (f l).account) ls
-accounts_of f [] = refl
-accounts_of f (l ∷ ls) = ap (λ t. (f l).account ∷ t) (accounts_of f ls)
-
 -- what the lines of any kind are answered by the table, and that it then holds their suppliers
 module _ {L : Type 0} (f : L → SheetLine) (day : ℕ) (entries : List Entry) (lines : List L) (old table : List ℕ) (long : length lines ≤ length old) (still : length lines ≤ length table) (told : table ≡ table_on day entries (map (λ l. (f l).account) lines) old) where
   abbrev suppliers : List ℕ
@@ -153,10 +167,10 @@ module _ {L : Type 0} (f : L → SheetLine) (day : ℕ) (entries : List Entry) (
   long_sheet = omega (arith, length-map lines f)
 
   told-sheet : table ≡ table_on day entries (accounts (map f lines)) old
-  told-sheet = told ∙ sym (ap (λ t. table_on day entries t old) (accounts_of f lines))
+  told-sheet = told ∙ sym (ap (λ t. table_on day entries t old) (map-map (λ l. l.account) f lines))
 
   same_served : suppliers_on day entries (accounts (map f lines)) ≡ suppliers
-  same_served = ap (suppliers_on day entries) (accounts_of f lines)
+  same_served = ap (suppliers_on day entries) (map-map (λ l. l.account) f lines)
 
   pub sheet_checked : checked_lines (map f lines) table ≡ checked_lines (map f lines) (suppliers_on day entries (map (λ l. (f l).account) lines))
   sheet_checked =

@@ -1,7 +1,7 @@
--- The front of a sheet that rises, and a search in it by halving.
-use Rattle.std.proofs.Common.{◌≡◌, ℕ, suc, ◌+◌, ◌<◌, ◌≤◌, true, false, cond, ltb, List, [], ◌∷◌, map, length, get_or, take, drop, Some, None, Option, sym, ap, ◌∙◌, ⊎_elim, arith}
+-- The front of a sheet that rises.
+use Rattle.std.proofs.Common.{◌≡◌, ℕ, suc, ◌+◌, ◌<◌, ◌≤◌, true, false, cond, ltb, List, [], ◌∷◌, map, length, get_or, take, drop, Some, None, Option, sym, ap, ◌∙◌, arith}
 use Rattle.std.proofs.lemmas.List.{length-take-le, get_or-take, at_drop_more, at_drop_all, get_or-map, length-map}
-use Rattle.std.proofs.lemmas.Bool.{ltb-true, cond_both, cond-true, cond-false, cases_order}
+use Rattle.std.proofs.lemmas.Bool.{ltb-true, cond_both, cond-true, cond-false}
 use Rattle.book.specs.Rising.{Rising}
 use Rattle.book.specs.Sheets.{is_above, rising_after, rising_front}
 use Rattle.book.proofs.Rises.{rising_one, rising_cons}
@@ -76,73 +76,3 @@ front_part_rises n accounts part i j less short =
     let long : length (take n accounts) ≡ n = length-take-le n accounts (omega arith) in
     let step = rises_at all accounts within (front_rises accounts) i j less (omega arith) in
     omega (arith, step, get_or-take n accounts i 0 (omega arith), get_or-take n accounts j 0 (omega arith))
-
--- a search by halving: the accounts before `low` are below the one sought, those from `high` on above it
-pub record Halved (xs : List ℕ) (n account low high : ℕ) : Type 0 where
-  pub ordered : low ≤ high
-  pub within : high ≤ n
-  pub below : (k : ℕ) → k < low → get_or xs k 0 < account
-  pub above : (k : ℕ) → high ≤ k → k < n → account < get_or xs k 0
-
-pub halved_start : (xs : List ℕ) (n account : ℕ) → Halved xs n account 0 n
-halved_start xs n account =
-    record { ordered = omega arith; within = omega arith; below = λ k h. absurd (omega arith); above = λ k h s. absurd (omega arith) }
-
-halved_up : (xs : List ℕ) (n account low high middle : ℕ) → ((i j : ℕ) → i < j → j < n → get_or xs i 0 < get_or xs j 0)
-    → Halved xs n account low high → low ≤ middle → middle < high → get_or xs middle 0 < account → Halved xs n account (middle + 1) high
-halved_up xs n account low high middle rises h from to less =
-    let short : middle < n = omega (arith, h.within) in
-    record {
-      ordered = omega arith;
-      within = h.within;
-      below = λ k s. ⊎_elim (λ e. let here : get_or xs k 0 ≡ get_or xs middle 0 = ap (λ i. get_or xs i 0) e in omega arith)
-          (⊎_elim (λ l. omega (arith, rises k middle l short)) (λ l. absurd (omega arith))) (cases_order k middle);
-      above = h.above;
-    }
-
-halved_down : (xs : List ℕ) (n account low high middle : ℕ) → ((i j : ℕ) → i < j → j < n → get_or xs i 0 < get_or xs j 0)
-    → Halved xs n account low high → low ≤ middle → middle < high → account < get_or xs middle 0 → Halved xs n account low middle
-halved_down xs n account low high middle rises h from to more =
-    record {
-      ordered = from;
-      within = omega (arith, h.within);
-      below = h.below;
-      above = λ k s short. ⊎_elim (λ e. let here : get_or xs k 0 ≡ get_or xs middle 0 = ap (λ i. get_or xs i 0) e in omega arith)
-          (⊎_elim (λ l. absurd (omega arith)) (λ l. omega (arith, rises middle k l short))) (cases_order k middle);
-    }
-
--- where nothing is left between, the account is not there
-pub halved_none : (xs : List ℕ) (n account low high : ℕ) → Halved xs n account low high → high ≤ low → (k : ℕ) → k < n → get_or xs k 0 ≡ account → ⊥
-halved_none xs n account low high h ends k short same =
-    ⊎_elim (λ e. omega (arith, h.above k (omega arith) short))
-    (⊎_elim (λ l. omega (arith, h.below k l)) (λ l. omega (arith, h.above k (omega arith) short))) (cases_order k low)
-
--- One step of the search: the account there was read off the line in the middle.
-there_at : {X : Type 0} (f : X → ℕ) (lines : List X) (n account low high middle there : ℕ) (line : X) → n ≤ length lines
-    → Halved (map f lines) n account low high → middle < high → line ≡ get_or lines middle line → there ≡ f line → there ≡ get_or (map f lines) middle 0
-there_at f lines n account low high middle there line within h to is told =
-    account_at f lines middle there line (omega (arith, h.within)) is told
-
-lines_rise : {X : Type 0} (f : X → ℕ) (lines : List X) (n : ℕ) → n ≤ length lines → Rising (take n (map f lines))
-    → (i j : ℕ) → i < j → j < n → get_or (map f lines) i 0 < get_or (map f lines) j 0
-lines_rise f lines n within rises = rises_at n (map f lines) (omega (arith, length-map lines f)) rises
-
-pub searched_found : {X : Type 0} (f : X → ℕ) (lines : List X) (n account low high middle there : ℕ) (line : X) → n ≤ length lines
-    → Halved (map f lines) n account low high → middle < high → line ≡ get_or lines middle line → there ≡ f line → there ≡ account
-    → (middle < n) × (get_or (map f lines) middle 0 ≡ account)
-searched_found f lines n account low high middle there line within h to is told same =
-    (omega (arith, h.within), sym (there_at f lines n account low high middle there line within h to is told) ∙ same)
-
-pub searched_up : {X : Type 0} (f : X → ℕ) (lines : List X) (n account low high middle there : ℕ) (line : X) → n ≤ length lines → Rising (take n (map f lines))
-    → Halved (map f lines) n account low high → low ≤ middle → middle < high → line ≡ get_or lines middle line → there ≡ f line → there < account
-    → Halved (map f lines) n account (middle + 1) high
-searched_up f lines n account low high middle there line within rises h from to is told less =
-    let read = there_at f lines n account low high middle there line within h to is told in
-    halved_up (map f lines) n account low high middle (lines_rise f lines n within rises) h from to (omega arith)
-
-pub searched_down : {X : Type 0} (f : X → ℕ) (lines : List X) (n account low high middle there : ℕ) (line : X) → n ≤ length lines → Rising (take n (map f lines))
-    → Halved (map f lines) n account low high → low ≤ middle → middle < high → line ≡ get_or lines middle line → there ≡ f line → account < there
-    → Halved (map f lines) n account low middle
-searched_down f lines n account low high middle there line within rises h from to is told more =
-    let read = there_at f lines n account low high middle there line within h to is told in
-    halved_down (map f lines) n account low high middle (lines_rise f lines n within rises) h from to (omega arith)

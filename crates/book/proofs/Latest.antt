@@ -1,5 +1,9 @@
 -- An account's last entry, entry by entry.
-use Rattle.std.proofs.Common.{◌≡◌, ℕ, ◌+◌, ◌-◌, ◌<◌, ◌≤◌, true, false, cond, List, [], ◌∷◌, ◌++◌, length, get_or, take, Some, None, fold, Option, refl, ap, ◌∙◌, arith}
+use Rattle.std.proofs.Common.{◌≡◌, ℕ, ◌+◌, ◌<◌, Bool, true, false, cond, List, [], ◌∷◌, ◌++◌, reverse, length, get_or, take, Some, None, fold, Option, sym, refl, ap, ◌∙◌}
+use Rattle.std.specs.List.{find}
+use Rattle.std.specs.Option.{option_or}
+use Rattle.std.proofs.lemmas.List.{reverse-append}
+use Rattle.std.proofs.lemmas.List.Folds.{find-append}
 use Rattle.std.proofs.lemmas.List.Sums.{fold_more}
 use Rattle.std.proofs.lemmas.Bool.{cond-true, cond-false}
 use Rattle.book.specs.declared.roster.Entry.{Entry}
@@ -9,20 +13,25 @@ pub one_entry : (account : ℕ) (by : Option ℕ) (es : List Entry) (i : ℕ) (d
     → last_entry account by (take (i + 1) es) ≡ cond (concerns account by (get_or es i d)) (Some (get_or es i d)) (last_entry account by (take i es))
 one_entry account by es i d lt = fold_more (λ found e. cond (concerns account by e) (Some e) found) None es i d lt
 
--- the same from the end, where i entries are still to be looked at
-last_of_front : (account : ℕ) (by : Option ℕ) (es : List Entry) (i : ℕ) (d : Entry) → 0 < i → i ≤ length es
-    → last_entry account by (take i es) ≡ cond (concerns account by (get_or es (i - 1) d)) (Some (get_or es (i - 1) d)) (last_entry account by (take (i - 1) es))
-last_of_front account by es i d some within =
-    let whole : i ≡ i - 1 + 1 = omega arith in
-    ap (λ k. last_entry account by (take k es)) whole ∙ one_entry account by es (i - 1) d (omega arith)
+-- a fold that keeps the last that passes finds the first from the end
+or_of_one : {X : Type 0} (b : Bool) (a c : Option X) (x : X) → option_or a (cond b (Some x) c) ≡ option_or (option_or a (cond b (Some x) None)) c
+or_of_one b (Some y) c x = refl
+or_of_one true None c x = refl
+or_of_one false None c x = refl
 
-pub entry_found : (account : ℕ) (by : Option ℕ) (es : List Entry) (i : ℕ) (d : Entry) → 0 < i → i ≤ length es → concerns account by (get_or es (i - 1) d) ≡ true
-    → last_entry account by (take i es) ≡ Some (get_or es (i - 1) d)
-entry_found account by es i d some within it = last_of_front account by es i d some within ∙ cond-true _ _ _ it
+last_kept : {X : Type 0} (p : X → Bool) (first : Option X) (xs : List X) → fold (λ found x. cond (p x) (Some x) found) first xs ≡ option_or (find p (reverse xs)) first
+last_kept p first [] = refl
+last_kept p first (x ∷ xs) =
+    last_kept p (cond (p x) (Some x) first) xs
+    ∙ or_of_one (p x) (find p (reverse xs)) first x
+    ∙ sym (ap (λ t. option_or t first) (ap (find p) (reverse-append (x ∷ []) xs) ∙ find-append p (reverse xs) (x ∷ [])))
 
-pub entry_passed : (account : ℕ) (by : Option ℕ) (es : List Entry) (i : ℕ) (d : Entry) → 0 < i → i ≤ length es → concerns account by (get_or es (i - 1) d) ≡ false
-    → last_entry account by (take i es) ≡ last_entry account by (take (i - 1) es)
-entry_passed account by es i d some within other = last_of_front account by es i d some within ∙ cond-false _ _ _ other
+or_none : {X : Type 0} (a : Option X) → option_or a None ≡ a
+or_none None = refl
+or_none (Some x) = refl
+
+pub last_found : (account : ℕ) (by : Option ℕ) (es : List Entry) → last_entry account by es ≡ find (concerns account by) (reverse es)
+last_found account by es = last_kept (concerns account by) None es ∙ or_none (find (concerns account by) (reverse es))
 
 -- entries that do not fit leave what was found before them
 kept : (account : ℕ) (by : Option ℕ) (first : Option Entry) (es : List Entry) → NoneOf account by es

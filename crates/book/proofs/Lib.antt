@@ -3,8 +3,8 @@ pub mod Rises
 pub mod Rolls
 pub mod Latest
 pub mod Fronts
+pub mod Searching
 pub mod Tables
-pub mod Switches
 pub mod Checking
 pub mod Admitting
 pub mod Settlement

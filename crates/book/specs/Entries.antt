@@ -1,17 +1,13 @@
 -- The roster's entries, and the supplier that they tell.
-use Rattle.std.specs.Prelude.{◌≡◌, ℕ, zero, suc, Bool, true, false, cond, ◌&&◌, List, [], ◌∷◌, ◌++◌, take, drop, Some, None, fold, Option, ◌==◌, nat_le}
+use Rattle.std.specs.Prelude.{◌≡◌, ℕ, zero, suc, Bool, true, false, cond, ◌&&◌, List, [], ◌∷◌, ◌++◌, drop, Some, None, fold, Option, ◌==◌, nat_le}
 use Rattle.std.specs.List.{AllByRecursion}
 use Rattle.book.specs.declared.roster.Entry.{Entry}
-use Rattle.book.specs.declared.roster.Roster.{Roster}
 use Rattle.book.specs.Ranges.{is_supplier}
 
 -- a roster: its entries, of any content, and what the user's memory holds after them
 pub record Roll : Type 0 where
   pub entries : List Entry
   pub beyond : List Entry
-
-abbrev pub roll_of : Roster → Roll
-roll_of r = record { entries = take r.count r.memory.now; beyond = drop r.count r.memory.now }
 
 abbrev pub empty_roll : List Entry → Roll
 empty_roll memory = record { entries = []; beyond = memory }

@@ -1,8 +1,10 @@
 pub mod Rising
 pub mod Ranges
 pub mod Slips
+pub mod DaySlips
 pub mod Opening
 pub mod Entries
+pub mod Rolls
 pub mod Calls
 pub mod Sheets
 pub mod Checks

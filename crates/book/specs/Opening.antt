@@ -2,10 +2,9 @@
 use Rattle.std.specs.Prelude.{ℕ, ◌&&◌, List, [], ◌∷◌, ◌++◌, Ok, Err, Result, nat_lt}
 use Rattle.refusals.specs.declared.Cause.TheVariants.{OutOfRange, DayNotAfter}
 use Rattle.refusals.specs.declared.Refusal.{Refusal}
-use Rattle.book.specs.declared.slip.Slip.{Slip}
 use Rattle.book.specs.Ranges.{is_day, is_hours, unless}
 use Rattle.book.specs.Rising.{Rising}
-use Rattle.book.specs.Slips.{DaySlip, slip_of}
+use Rattle.book.specs.Slips.{DaySlip}
 
 -- the slip of a day that is opened: stage 1, no hour settled
 abbrev pub new_slip : ℕ → ℕ → DaySlip
@@ -22,11 +21,6 @@ opening last day hours =
 abbrev pub last_after : ℕ → Result DaySlip Refusal → ℕ
 last_after last (Ok slip) = slip.day
 last_after last (Err refusal) = last
-
--- an answer with the slip by what it says
-abbrev pub told : {stage : ℕ} → Result (Slip stage) Refusal → Result DaySlip Refusal
-told (Ok slip) = Ok (slip_of slip)
-told (Err refusal) = Err refusal
 
 -- the days of the slips that a list of calls was given, in order; each call is a day and its count of hours
 abbrev pub day_given : Result DaySlip Refusal → List ℕ

@@ -1,6 +1,5 @@
 -- Slips: the duty to close an opened day.
-use Rattle.std.specs.Prelude.{◌≡◌, ℕ, zero, suc, ◌+◌, ◌-◌, ◌/◌, ◌%◌, ◌^◌, ◌≤◌, Bool, cond, ◌||◌, ◌==◌, bit_or}
-use Rattle.book.specs.declared.slip.Slip.{Slip}
+use Rattle.std.specs.Prelude.{◌≡◌, ℕ, zero, suc, ◌+◌, ◌-◌, ◌/◌, ◌%◌, ◌^◌, ◌<◌, ◌≤◌, Bool, cond, ◌||◌, ◌==◌, bit_or}
 
 -- what a slip says: its stage, its day, how many hours the day has, and the settled ones of these
 pub record DaySlip : Type 0 where
@@ -8,6 +7,14 @@ pub record DaySlip : Type 0 where
   pub day : ℕ
   pub hours : ℕ
   pub settled : ℕ
+
+-- what a slip of a stage keeps: no hour beyond those of its day is settled
+pub record IsSlip (stage : ℕ) (s : DaySlip) : Type 0 where
+  pub own : s.stage ≡ stage
+  pub staged : (1 ≤ s.stage) × (s.stage ≤ 2)
+  pub dated : (1 ≤ s.day) × (s.day ≤ 60000)
+  pub timed : (23 ≤ s.hours) × (s.hours ≤ 25)
+  pub within : s.settled < 2 ^ s.hours
 
 -- The settled hours are kept as the sum of their marks.
 abbrev pub mark_of : ℕ → ℕ
@@ -20,9 +27,6 @@ is_settled settled hour = settled / mark_of hour % 2 == 1
 unfoldable pub unsettled : ℕ → ℕ → ℕ
 unsettled settled zero = 0
 unsettled settled (suc n) = unsettled settled n + cond (is_settled settled (suc n)) 0 (mark_of (suc n))
-
-abbrev pub slip_of : {stage : ℕ} → Slip stage → DaySlip
-slip_of {stage} s = record { stage = stage; day = s.day; hours = s.hours; settled = s.settled }
 
 -- the slip of stage 2 that a slip is turned into: no hour is settled in it
 abbrev pub turned : DaySlip → DaySlip

@@ -1,15 +1,17 @@
 //! The book of days.
 ghost use Rattle.std.specs.Prelude.{◌≡◌};
-ghost use Rattle.book.specs.Opening.{opening, last_after, told, DaysRise};
+ghost use Rattle.book.specs.Opening.{opening, last_after, DaysRise};
 
-use crate::ranges::{is_day, is_hours, refused};
+use crate::ranges::{check, is_hours};
 use crate::slip::Slip;
 use crate::slip::opened::new_slip;
 use refusals::{Cause, Refusal};
+use rows::is_day;
 
 /// The book: it knows the last opened day, 0 at first.
 #[derive(Drop)]
 pub struct Book {
+    // A day is compared with it as with any other, so none opened is 0 and no Option.
     last_opened: u32,
 }
 
@@ -31,16 +33,12 @@ impl Book {
 
     /// Opens a day of so many hours: gives its slip of stage 1.
     pub fn open(&mut self, day: u32, hours: u32) -> Result<Slip<1>, Refusal>
-        ensures answer { told result ≡ opening self.old.last_opened day hours }
+        ensures answer { result ≡ opening self.old.last_opened day hours }
         ensures after { self.new.last_opened ≡ last_after self.old.last_opened (opening self.old.last_opened day hours) }
     {
         let Book { last_opened } = self;
-        if !is_day(day) || !is_hours(hours) {
-            return Err(refused(Cause::OutOfRange));
-        }
-        if day <= *last_opened {
-            return Err(refused(Cause::DayNotAfter));
-        }
+        check(is_day(day) && is_hours(hours), Cause::OutOfRange)?;
+        check(*last_opened < day, Cause::DayNotAfter)?;
         *last_opened = day;
         Ok(new_slip(day, hours))
     }

@@ -1,14 +1,10 @@
 //! Settling an hour.
 ghost use Rattle.std.specs.Prelude.{◌≡◌, ◌≤◌, map, length, sum, OnOk};
-ghost use Rattle.refusals.specs.Numbers.{refusal};
-ghost use Rattle.refusals.specs.declared.Layer.TheVariants.{Sheet};
 ghost use Rattle.rules.specs.Ranges.{most};
 ghost use Rattle.rules.specs.Lines.{account_of, cause_of, interval_weight, profiled_weight};
 ghost use Rattle.rules.specs.Totals.{group_totals};
 ghost use Rattle.archive.specs.Contents.{kept};
 ghost use Rattle.archive.specs.Intake.{entered};
-ghost use Rattle.book.specs.Entries.{roll_of};
-ghost use Rattle.book.specs.Slips.{slip_of};
 ghost use Rattle.book.specs.Settled.{Settled, SettlingLaw};
 ghost use Rattle.book.specs.Settling.{hour_of, in_order, admitted, owed, owed_in, rows_in, settling, settled_archive, settled_list, settled_slip};
 
@@ -43,20 +39,20 @@ impl Checked for Line {
 fn is_in_order(hours: u32, hour: u32, zone_load: u32, lines: usize) -> bool
     ensures { result ≡ in_order hours hour zone_load lines }
 {
-    1 <= hour && hour <= hours && zone_load <= 3_000_000_000 && lines <= 65_536
+    (1..=hours).contains(&hour) && zone_load <= 3_000_000_000 && lines <= 65_536
 }
 
 /// The totals of the two groups of a sheet.
 fn sheet_totals<R: Arrangement>(
     arrangement: &R,
-    zone_load: u64,
+    zone_load: u32,
     sheet: &[Line],
 ) -> Result<(u64, u64), Refusal>
     requires { zone_load ≤ most }
     ensures { result ≡ group_totals (R.meaning arrangement.now) zone_load (sum (map interval_weight sheet.now)) (sum (map profiled_weight sheet.now)) }
 {
     let (interval, profiled) = weigh(sheet)?;
-    group_totals(arrangement, zone_load, interval, profiled)
+    group_totals(arrangement, u64::from(zone_load), interval, profiled)
 }
 
 /// What a settling comes to: the totals of the two groups, and each supplier's obligation.
@@ -65,16 +61,6 @@ pub(crate) struct Owed {
     interval: u64,
     profiled: u64,
     suppliers: [u64; 32],
-}
-
-fn refused(cause: Cause) -> Refusal
-    ensures { result ≡ refusal cause Sheet 0 }
-{
-    Refusal {
-        cause,
-        layer: Layer::Sheet,
-        place: 0,
-    }
 }
 
 /// The checks up to the totals of the groups, and then the obligations.
@@ -87,18 +73,18 @@ fn hour_owed<const STAGE: u8, R: Arrangement>(
     arrangement: &R,
     places: usize,
 ) -> Result<Owed, Refusal>
-    ensures { result ≡ owed (admitted (hour_of (R.meaning arrangement.now) (slip_of slip.now) hour zone_load sheet.now (roll_of roster.now).entries) places) (owed_in (hour_of (R.meaning arrangement.now) (slip_of slip.now) hour zone_load sheet.now (roll_of roster.now).entries)) }
+    ensures { result ≡ owed (admitted (hour_of (R.meaning arrangement.now) slip.now hour zone_load sheet.now roster.now.entries) places) (owed_in (hour_of (R.meaning arrangement.now) slip.now hour zone_load sheet.now roster.now.entries)) }
 {
     if !is_in_order(slip.hours(), hour, zone_load, sheet.len()) {
-        return Err(refused(Cause::OutOfRange));
+        return Err(Refusal::new(Cause::OutOfRange, Layer::Sheet));
     }
     if places < sheet.len() {
-        return Err(refused(Cause::ListTooShort));
+        return Err(Refusal::new(Cause::ListTooShort, Layer::Sheet));
     }
     let mut table = [0u8; 65_536];
     check_sheet(sheet, roster, slip.day(), &mut table)?;
-    let (interval, profiled) = sheet_totals(arrangement, zone_load as u64, sheet)?;
-    let suppliers = obligations(interval, profiled, sheet, &table[0..sheet.len()])?;
+    let (interval, profiled) = sheet_totals(arrangement, zone_load, sheet)?;
+    let suppliers = obligations(interval, profiled, sheet, &table[..sheet.len()])?;
     Ok(Owed {
         interval,
         profiled,
@@ -123,13 +109,13 @@ pub(crate) fn settle<const STAGE: u8, R: Arrangement, A: Archive>(
     archive: &mut A,
     list: &mut [Energy],
 ) -> Result<usize, Refusal>
-    ensures answer { result ≡ settling (hour_of (R.Arrangement.meaning arrangement.now) (slip_of slip.old) hour zone_load sheet.now (roll_of roster.now).entries) (length list.old) (A.Archive.meaning archive.old) }
-    ensures archive { A.Archive.meaning archive.new ≡ settled_archive (hour_of (R.Arrangement.meaning arrangement.now) (slip_of slip.old) hour zone_load sheet.now (roll_of roster.now).entries) (length list.old) (A.Archive.meaning archive.old) }
-    ensures list { list.new ≡ settled_list (hour_of (R.Arrangement.meaning arrangement.now) (slip_of slip.old) hour zone_load sheet.now (roll_of roster.now).entries) list.old (A.Archive.meaning archive.old) }
-    ensures slip { slip_of slip.new ≡ settled_slip (hour_of (R.Arrangement.meaning arrangement.now) (slip_of slip.old) hour zone_load sheet.now (roll_of roster.now).entries) (length list.old) (A.Archive.meaning archive.old) }
-    ensures memory { A.Archive.memory archive.new ≡ kept result (entered A.Archive.stamped (A.Archive.memory archive.old) (length (A.Archive.meaning archive.old).rows) (rows_in (hour_of (R.Arrangement.meaning arrangement.now) (slip_of slip.old) hour zone_load sheet.now (roll_of roster.now).entries) (A.Archive.meaning archive.old))) (A.Archive.memory archive.old) }
+    ensures answer { result ≡ settling (hour_of (R.Arrangement.meaning arrangement.now) slip.old hour zone_load sheet.now roster.now.entries) (length list.old) (A.Archive.meaning archive.old) }
+    ensures archive { A.Archive.meaning archive.new ≡ settled_archive (hour_of (R.Arrangement.meaning arrangement.now) slip.old hour zone_load sheet.now roster.now.entries) (length list.old) (A.Archive.meaning archive.old) }
+    ensures list { list.new ≡ settled_list (hour_of (R.Arrangement.meaning arrangement.now) slip.old hour zone_load sheet.now roster.now.entries) list.old (A.Archive.meaning archive.old) }
+    ensures slip { slip.new ≡ settled_slip (hour_of (R.Arrangement.meaning arrangement.now) slip.old hour zone_load sheet.now roster.now.entries) (length list.old) (A.Archive.meaning archive.old) }
+    ensures memory { A.Archive.memory archive.new ≡ kept result (entered A.Archive.stamped (A.Archive.memory archive.old) (length (A.Archive.meaning archive.old).rows) (rows_in (hour_of (R.Arrangement.meaning arrangement.now) slip.old hour zone_load sheet.now roster.now.entries) (A.Archive.meaning archive.old))) (A.Archive.memory archive.old) }
     ensures lent { A.Archive.lent archive.new ≡ A.Archive.lent archive.old }
-    ensures settled { OnOk result (Settled (hour_of (R.Arrangement.meaning arrangement.now) (slip_of slip.old) hour zone_load sheet.now (roll_of roster.now).entries) (A.Archive.meaning archive.old).rows (A.Archive.meaning archive.new).rows) }
+    ensures settled { OnOk result (Settled (hour_of (R.Arrangement.meaning arrangement.now) slip.old hour zone_load sheet.now roster.now.entries) (A.Archive.meaning archive.old).rows (A.Archive.meaning archive.new).rows) }
     ensures law { SettlingLaw }
 {
     // What an archive holds is lawful: its count says so.

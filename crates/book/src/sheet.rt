@@ -1,5 +1,5 @@
 //! Sheets: lines in rising order of their accounts.
-ghost use Rattle.std.specs.Prelude.{◌≡◌, ℕ, ◌+◌, ◌<◌, ◌≤◌, map, length, take, MatchOption, ◌≢◌, slice_index};
+ghost use Rattle.std.specs.Prelude.{◌≡◌, ℕ, ◌<◌, map, length, MatchOption, ◌≢◌, slice_index};
 ghost use Rattle.book.specs.Rising.{Rising};
 ghost use Rattle.book.specs.Sheets.{is_above, rising_front};
 
@@ -16,10 +16,7 @@ pub trait Accounted {
 pub(crate) fn is_above(account: u32, before: Option<u32>) -> bool
     ensures { result ≡ is_above before account }
 {
-    match before {
-        Some(other) => other < account,
-        None => true,
-    }
+    before.is_none_or(|other| other < account)
 }
 
 /// How many lines stand before the first whose account is not above that of the line before it.
@@ -37,25 +34,12 @@ pub(crate) fn rising_front<L: Accounted>(lines: &[L]) -> usize
     lines.len()
 }
 
-/// Where an account stands among the first `n` lines, whose accounts rise.
-pub(crate) fn place_of<L: Accounted>(lines: &[L], n: usize, account: u32) -> Option<usize>
-    requires within { n ≤ length lines.now }
-    requires rises { Rising (take n (map L.account_of lines.now)) }
-    ensures { MatchOption result ((k : ℕ) → k < n → slice_index (map L.account_of lines.now) k ≢ account) (λ k. (k < n) × (slice_index (map L.account_of lines.now) k ≡ account)) }
+/// Where an account stands among lines whose accounts rise.
+pub(crate) fn place_of<L: Accounted>(lines: &[L], account: u32) -> Option<usize>
+    requires { Rising (map L.account_of lines.now) }
+    ensures { MatchOption result ((k : ℕ) → k < length lines.now → slice_index (map L.account_of lines.now) k ≢ account) (λ k. (k < length lines.now) × (slice_index (map L.account_of lines.now) k ≡ account)) }
 {
-    let mut low = 0;
-    let mut high = n;
-    while low < high {
-        let middle = low + (high - low) / 2;
-        let there = lines[middle].account();
-        if there == account {
-            return Some(middle);
-        }
-        if there < account {
-            low = middle + 1;
-        } else {
-            high = middle;
-        }
-    }
-    None
+    lines
+        .binary_search_by_key(&account, |line| line.account())
+        .ok()
 }

@@ -1,5 +1,6 @@
 //! The slip of an opened day, which has to be closed.
-ghost use Rattle.std.specs.Prelude.{◌^◌, ◌<◌, ◌≤◌};
+
+use std::marker::Model;
 
 /// The slip of an opened day in a stage: 1 the day-after estimate, 2 the 60-day reconciliation.
 /// It cannot be let go: it is turned at stage 1 and closed at stage 2.
@@ -7,13 +8,18 @@ pub struct Slip<const STAGE: u8> {
     day: u32,
     hours: u32,
     settled: u32,
-    ghost first: { 1 ≤ STAGE },
-    ghost last: { STAGE ≤ 2 },
-    ghost begun: { 1 ≤ day },
-    ghost dated: { day ≤ 60000 },
-    ghost long: { 23 ≤ hours },
-    ghost short: { hours ≤ 25 },
-    ghost within: { settled < 2 ^ hours },
+}
+
+impl<const STAGE: u8> Model for Slip<STAGE> {
+    ghost use Rattle.book.specs.Slips.{DaySlip, IsSlip};
+
+    ghost Value = { DaySlip };
+
+    ghost use Rattle.book.specs.DaySlips.{slip_of};
+
+    ghost view = { slip_of };
+
+    ghost invariant = { λ s. IsSlip STAGE (slip_of s) };
 }
 
 pub(crate) mod opened;

@@ -1,49 +1,36 @@
 //! The suppliers of a whole sheet in one pass over the entries.
-ghost use Rattle.std.specs.Prelude.{◌≡◌, ◌+◌, ◌<◌, ◌≤◌, ◌++◌, map, length, take, drop, replicate};
-ghost use Rattle.book.specs.Entries.{roll_of};
+ghost use Rattle.std.specs.Prelude.{◌≡◌, map, length};
 ghost use Rattle.book.specs.Rising.{Rising};
 ghost use Rattle.book.specs.Sheets.{suppliers_on, lines_told, table_on};
 
 use super::Roster;
-use super::places::supplier_in;
 use crate::sheet::{Accounted, place_of, rising_front};
 
-/// Clears the first `n` places of a table.
-fn clear(table: &mut [u8], n: usize)
-    requires { n ≤ length table.old }
-    ensures { table.new ≡ replicate n 0 ++ drop n table.old }
-{
-    for i in 0..n {
-        table[i] = 0;
-    }
-}
-
+// The table stands beside the lines, with 0 for nobody: its user lends it, one byte a line.
 impl<'a> Roster<'a> {
     /// Writes the supplier of each line's account on a day into the table, 0 for nobody: for the lines before the first
     /// whose account is not above that of the line before it, as far as the table reaches. Answers how many these are.
     pub fn suppliers<L: Accounted>(&self, lines: &[L], day: u32, table: &mut [u8]) -> usize
         ensures answer { result ≡ lines_told (map L.account_of lines.now) table.old }
-        ensures after { table.new ≡ table_on day (roll_of self.now).entries (map L.account_of lines.now) table.old }
+        ensures after { table.new ≡ table_on day self.now.entries (map L.account_of lines.now) table.old }
     {
         let n = rising_front(lines).min(table.len());
-        clear(table, n);
-        self.enter_suppliers(lines, n, day, table);
+        self.enter_suppliers(&lines[..n], day, &mut table[..n]);
         n
     }
 
-    /// The same for the first `n` lines, which rise, in a table whose first `n` places are clear.
-    fn enter_suppliers<L: Accounted>(&self, lines: &[L], n: usize, day: u32, table: &mut [u8])
-        requires within { n ≤ length lines.now }
-        requires rises { Rising (take n (map L.account_of lines.now)) }
-        requires clear { take n table.old ≡ replicate n 0 }
-        ensures { table.new ≡ suppliers_on day (roll_of self.now).entries (take n (map L.account_of lines.now)) ++ drop n table.old }
+    /// The same for lines that rise, in a table with a place for each.
+    fn enter_suppliers<L: Accounted>(&self, lines: &[L], day: u32, table: &mut [u8])
+        requires long { length table.old ≡ length lines.now }
+        requires rises { Rising (map L.account_of lines.now) }
+        ensures { table.new ≡ suppliers_on day self.now.entries (map L.account_of lines.now) }
     {
-        for i in 0..self.count {
-            let entry = self.memory[i];
-            if entry.from_day <= day {
-                if let Some(place) = place_of(lines, n, entry.account) {
-                    table[place] = supplier_in(Some(entry));
-                }
+        table.fill(0);
+        for entry in &self.memory[..self.count] {
+            if entry.from_day <= day
+                && let Some(place) = place_of(lines, entry.account)
+            {
+                table[place] = entry.supplier().unwrap_or(0);
             }
         }
     }

@@ -1,7 +1,6 @@
 //! The slip that opening a day gives.
 ghost use Rattle.std.specs.Prelude.{◌≡◌, true};
 ghost use Rattle.book.specs.Ranges.{is_day, is_hours};
-ghost use Rattle.book.specs.Slips.{slip_of};
 ghost use Rattle.book.specs.Opening.{new_slip};
 
 use super::Slip;
@@ -10,7 +9,7 @@ use super::Slip;
 pub(crate) fn new_slip(day: u32, hours: u32) -> Slip<1>
     requires dated { is_day day ≡ true }
     requires timed { is_hours hours ≡ true }
-    ensures { slip_of result ≡ new_slip day hours }
+    ensures { result ≡ new_slip day hours }
 {
     Slip {
         day,

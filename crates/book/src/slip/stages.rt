@@ -1,20 +1,21 @@
 //! What a slip says, and how it goes from stage to stage.
 ghost use Rattle.std.specs.Prelude.{◌≡◌, ◌-◌, ◌<◌, ◌≤◌};
-ghost use Rattle.book.specs.Slips.{slip_of, turned, closing, marked, MarksOne};
+ghost use Rattle.book.specs.Slips.{IsSlip, turned, closing, marked, MarksOne};
 
 use super::Slip;
 
 impl<const STAGE: u8> Slip<STAGE> {
     /// The day.
     pub fn day(&self) -> u32
-        ensures { result ≡ (slip_of self.now).day }
+        ensures answer { result ≡ self.now.day }
+        ensures kept { IsSlip STAGE self.now }
     {
         self.day
     }
 
     /// How many hours the day has.
     pub fn hours(&self) -> u32
-        ensures { result ≡ (slip_of self.now).hours }
+        ensures { result ≡ self.now.hours }
     {
         self.hours
     }
@@ -22,18 +23,19 @@ impl<const STAGE: u8> Slip<STAGE> {
     /// Marks an hour of the day as settled in the slip's stage.
     pub(crate) fn mark(&mut self, hour: u32)
         requires begun { 1 ≤ hour }
-        requires within { hour ≤ (slip_of self.old).hours }
-        ensures after { slip_of self.new ≡ marked hour (slip_of self.old) }
+        requires within { hour ≤ self.old.hours }
+        ensures after { self.new ≡ marked hour self.old }
         ensures one { MarksOne }
     {
-        self.settled |= 1 << (hour - 1);
+        let Slip { settled, .. } = self;
+        *settled |= 1 << (hour - 1);
     }
 }
 
 impl Slip<1> {
     /// Exchanges the slip for one of stage 2, in which no hour is settled.
     pub fn turn(self) -> Slip<2>
-        ensures { slip_of result ≡ turned (slip_of self) }
+        ensures { result ≡ turned self }
     {
         let Slip {
             day,
@@ -51,7 +53,7 @@ impl Slip<1> {
 impl Slip<2> {
     /// Ends the slip. The answer is the sum of 2 to the power (h - 1) over the hours h not settled in stage 2.
     pub fn close(self) -> u32
-        ensures { result ≡ closing (slip_of self) }
+        ensures { result ≡ closing self }
     {
         let Slip {
             day: _,

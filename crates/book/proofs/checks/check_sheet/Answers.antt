@@ -1,5 +1,4 @@
 use Rattle.std.proofs.Common.{◌∙◌, arith}
-use Rattle.book.specs.Entries.{roll_of}
 use Rattle.book.specs.Checks.{sheet_line}
 use Rattle.book.proofs.Checking.{sheet_checked, sheet-told}
 use Rattle.book.proofs.checks.check_sheet.Goals as goal
@@ -7,7 +6,7 @@ use Rattle.book.proofs.checks.check_sheet.Goals as goal
 pub returns : goal.returns
 returns g c =
     let lines = c.args.lines.now in
-    let entries = (roll_of c.args.roster.now).entries in
+    let entries = c.args.roster.now.entries in
     let old = c.args.table.now in
     let table = c.suppliers.new.table in
     record {

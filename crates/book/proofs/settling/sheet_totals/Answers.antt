@@ -10,7 +10,9 @@ pub returns : goal.returns
 returns g c =
     let m = g.R.Arrangement.meaning c.args.arrangement.now in
     let p = weights_are (map interval_weight c.args.sheet.now) (map profiled_weight c.args.sheet.now) _ c.in_ok-interval.ensures in
-    c.group_totals.ensures.answer ∙ ap (λ n. group_totals m c.args.zone_load n c.in_ok-interval.profiled) p.0 ∙ ap (group_totals m c.args.zone_load (sum (map interval_weight c.args.sheet.now))) p.1
+    c.group_totals.ensures.answer
+    ∙ ap (λ z. group_totals m z c.in_ok-interval.interval c.in_ok-interval.profiled) c.from.ensures
+    ∙ ap (λ n. group_totals m c.args.zone_load n c.in_ok-interval.profiled) p.0 ∙ ap (group_totals m c.args.zone_load (sum (map interval_weight c.args.sheet.now))) p.1
 
 pub returns-in_err-interval : goal.returns-in_err-interval
 returns-in_err-interval g c =

@@ -1,38 +1,38 @@
-use Rattle.std.proofs.Common.{◌<◌, ◌≤◌, map, length, drop, arith}
+use Rattle.std.proofs.Common.{◌≡◌, ℕ, ◌<◌, ◌≢◌, map, length, get_or, replicate, set, take, unwrap_or, sym, ap, ◌∙◌, arith, rules}
 use Rattle.std.proofs.lemmas.List.{length-map}
 use Rattle.book.specs.Entries.{entry}
-use Rattle.book.proofs.Tables.{table_begins, place_within, written_at, passed_absent, passed_late}
+use Rattle.book.specs.Sheets.{suppliers_on}
+use Rattle.book.proofs.Tables.{nobody_yet, or_nobody, passed_late, passed_absent, written_at}
 use Rattle.book.proofs.roster.Roster.enter_suppliers.Goals as goal
-use Rattle.book.proofs.roster.Roster.enter_suppliers.Goals.{then-entry-day+in-Some, then-entry-day+in_default, else-entry-day}
+use Rattle.book.proofs.roster.Roster.enter_suppliers.Goals.{then-entry-day+in-Some, else-entry-day, else-entry-day-via-else-entry-day, else-entry-day-via-then-entry-day+in-None-1}
 
-pub loop-i-init : goal.loop-i-init
-loop-i-init g c =
+pub loop-entry-init : goal.loop-entry-init
+loop-entry-init g c =
     let accounts = map g.L.Accounted.account_of c.args.lines.now in
-    let within : c.args.n ≤ length accounts = omega (arith, c.requires.within, length-map c.args.lines.now g.L.Accounted.account_of) in
-    table_begins c.args.day c.args.n accounts c.args.table.now within c.requires.clear
+    let long : length c.args.table.now ≡ length accounts = omega (arith, c.requires.long, length-map c.args.lines.now g.L.Accounted.account_of) in
+    c.fill.ensures.after (λ y same. same) ∙ ap (λ n. replicate n 0) long ∙ sym (nobody_yet c.args.day accounts)
 
-pub bounds-table-place : goal.bounds-table-place
-bounds-table-place g c =
-    omega (arith, c.loop-i.auto.table, place_within c.args.n c.in-Some.place c.args.table.now c.requires.clear c.in-Some.ensures.0)
-
-pub loop-i-preserved : goal.loop-i-preserved
-loop-i-preserved g c =
-    let es = c.args.self.now.memory.now in
-    let all = map g.L.Accounted.account_of c.args.lines.now in
-    let n = c.args.n in
-    let i = c.loop-i.i in
-    let rest = drop n c.args.table.now in
+pub loop-entry-preserved : goal.loop-entry-preserved
+loop-entry-preserved g c =
+    let es = take c.self.inside.count c.self.inside.memory.now in
+    let accounts = map g.L.Accounted.account_of c.args.lines.now in
+    let i = c.loop-entry.entry-index in
     let none = entry 0 0 0 in
-    let lt : i < length es = omega arith in
-    let within : n ≤ length all = omega (arith, c.requires.within, length-map c.args.lines.now g.L.Accounted.account_of) in
+    let so_far = suppliers_on c.args.day (take i es) accounts in
     elim c.if-entry-day.branch [
       | then-entry-day+in-Some w ↦
-          written_at c.args.day n i w.in-Some.place w.supplier_in.result es all rest c.loop-i.table c.if-entry-day.table none
-          lt within w.if-entry-day.true c.requires.rises w.in-Some.ensures.0 w.in-Some.ensures.1 w.supplier_in.ensures w.table-is c.loop-i.invariant
-      | then-entry-day+in_default w ↦
-          passed_absent c.args.day n i es all rest c.loop-i.table c.if-entry-day.table none
-          lt within w.in_default.ensures w.table-is c.loop-i.invariant
+          let there : w.in-Some.place < length accounts = omega (arith, w.in-Some.ensures.0, length-map c.args.lines.now g.L.Accounted.account_of) in
+          w.table-is
+          ∙ ap (λ t. set t w.in-Some.place w.unwrap_or.result) c.loop-entry.invariant
+          ∙ ap (set so_far w.in-Some.place) (w.unwrap_or.ensures ∙ ap (λ s. unwrap_or s 0) w.supplier.ensures ∙ or_nobody _)
+          ∙ sym (written_at c.args.day es accounts i w.in-Some.place none c.loop-entry-test.true w.if-entry-day.true c.requires.rises there w.in-Some.ensures.1)
       | else-entry-day w ↦
-          passed_late c.args.day n i es all rest c.loop-i.table c.if-entry-day.table none
-          lt w.if-entry-day.false w.table-is c.loop-i.invariant
+          elim w.else-entry-day.branch [
+            | else-entry-day-via-else-entry-day v ↦
+                w.table-is ∙ c.loop-entry.invariant ∙ sym (passed_late c.args.day es accounts i none c.loop-entry-test.true v.if-entry-day.false)
+            | else-entry-day-via-then-entry-day+in-None-1 v ↦
+                let absent : (k : ℕ) → k < length c.args.lines.now → get_or accounts k 0 ≢ (get_or es i none).account = search rules in
+                w.table-is ∙ c.loop-entry.invariant
+                ∙ sym (passed_absent c.args.day es accounts i none c.loop-entry-test.true (λ k lt. absent k (omega (arith, length-map c.args.lines.now g.L.Accounted.account_of))))
+          ]
     ]

@@ -1,12 +1,12 @@
-use Rattle.std.proofs.Common.{sym, ◌∙◌, arith}
-use Rattle.book.specs.Entries.{entry}
-use Rattle.book.proofs.Latest.{entry_found, entry_passed}
+use Rattle.std.proofs.Common.{take, sym, ap, ◌∙◌, rules, tests}
+use Rattle.std.proofs.lemmas.Iterator.Adapters.{YieldsList-from_rev_slice}
+use Rattle.std.proofs.lemmas.Iterator.Search.{find_from_yields_List}
+use Rattle.book.specs.Entries.{concerns, last_entry}
+use Rattle.book.proofs.Latest.{last_found}
 use Rattle.book.proofs.roster.Roster.last_entry.Goals as goal
 
-pub returns-then-is_of : goal.returns-then-is_of
-returns-then-is_of c =
-    sym (c.loop-i.invariant ∙ entry_found c.args.account c.args.by c.args.self.now.memory.now c.loop-i.i (entry 0 0 0) (omega arith) (omega arith) (sym c.is_of.ensures ∙ c.if-is_of.true))
-
-pub loop-i-preserved : goal.loop-i-preserved
-loop-i-preserved c =
-    c.loop-i.invariant ∙ entry_passed c.args.account c.args.by c.args.self.now.memory.now c.loop-i.i (entry 0 0 0) (omega arith) (omega arith) (sym c.is_of.ensures ∙ c.if-is_of.false)
+pub returns : goal.returns
+returns c =
+    let entries = take c.self.inside.count c.self.inside.memory.now in
+    let found = find_from_yields_List (concerns c.args.account c.args.by) _ _ c.find.result c.find.ensures.ran (YieldsList-from_rev_slice entries cc) (λ x b q k. search (rules, tests)) in
+    c.copied.ensures ∙ found ∙ sym (last_found c.args.account c.args.by entries) ∙ ap (λ roll. last_entry c.args.account c.args.by roll.entries) c.self.view_is

@@ -1,6 +1,7 @@
-use Rattle.std.proofs.Common.{arith}
+use Rattle.std.proofs.Common.{ap, ◌∙◌, arith}
+use Rattle.book.specs.Slips.{closing}
 use Rattle.book.proofs.Marks.{unsettled_is}
 use Rattle.book.proofs.slip.stages.Slip+2.close.Goals as goal
 
 pub returns : goal.returns
-returns c = unsettled_is c.args.self.settled c.args.self.hours c.args.self.within (omega arith)
+returns c = unsettled_is c.self.inside.settled c.self.inside.hours c.self.invariant.within (omega (arith, c.self.invariant.timed)) ∙ ap closing c.self.view_is

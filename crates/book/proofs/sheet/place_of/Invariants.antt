@@ -1,9 +1,0 @@
-use Rattle.std.proofs.Common.{◌-◌, map}
-use Rattle.book.proofs.Fronts.{Halved}
-use Rattle.book.proofs.sheet.place_of.Given as goal
-
-abbrev pub invariant-loop-low : goal.invariant-loop-low
-invariant-loop-low g l = Halved (map g.L.Accounted.account_of l.lines) l.n l.account l.low l.high
-
-abbrev pub decreases-loop-low : goal.decreases-loop-low
-decreases-loop-low g l = l.high - l.low
