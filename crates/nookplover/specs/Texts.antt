@@ -28,8 +28,8 @@ list_words day hour None = worded (codes "list") (day ∷ hour ∷ [])
 list_words day hour (Some bytes) = worded (codes "list") (day ∷ hour ∷ bytes ∷ [])
 
 abbrev pub call_words : Call → List ℕ
-call_words (Enrol account from supplier) = worded (codes "enrol") (account ∷ from ∷ supplier ∷ [])
-call_words (Switch account from supplier) = worded (codes "switch") (account ∷ from ∷ supplier ∷ [])
+call_words (Enrol e) = worded (codes "enrol") (e.account ∷ e.from_day ∷ e.supplier ∷ [])
+call_words (Switch e) = worded (codes "switch") (e.account ∷ e.from_day ∷ e.supplier ∷ [])
 call_words (Drop account from) = worded (codes "drop") (account ∷ from ∷ [])
 call_words (Open day hours) = worded (codes "open") (day ∷ hours ∷ [])
 call_words (Turn day) = worded (codes "turn") (day ∷ [])

@@ -4,6 +4,7 @@ ghost use Rattle.nookplover.specs.Numerals.{hex_digit, hex_of};
 ghost use Rattle.nookplover.specs.Texts.{spaced, worded, take_in_words, list_words, call_words, refused_line, number_line, rows_line, end_line};
 
 use crate::call::Call;
+use book::Entry;
 use refusals::Refusal;
 use std::alloc::AllocError;
 
@@ -81,20 +82,24 @@ pub(crate) fn put_call(out: &mut Vec<u8>, call: &Call) -> Result<(), AllocError>
     ensures { OnOk result (out.new.items ≡ out.old.items ++ call_words call.now) }
 {
     match call {
-        Call::Enrol {
-            account,
-            from_day,
-            supplier,
-        } => put_words(
+        Call::Enrol(
+            Entry {
+                account,
+                from_day,
+                supplier,
+            },
+        ) => put_words(
             out,
             b"enrol",
             &[*account as u64, *from_day as u64, *supplier as u64],
         ),
-        Call::Switch {
-            account,
-            from_day,
-            supplier,
-        } => put_words(
+        Call::Switch(
+            Entry {
+                account,
+                from_day,
+                supplier,
+            },
+        ) => put_words(
             out,
             b"switch",
             &[*account as u64, *from_day as u64, *supplier as u64],

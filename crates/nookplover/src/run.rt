@@ -5,7 +5,7 @@ use crate::slips::{Place, Slips};
 use archive::Archive;
 use archive::intake::take_in;
 use archive::listing::list;
-use book::{Book, Roster};
+use book::{Book, Entry, Roster};
 use refusals::Refusal;
 use std::alloc::{AllocError, Global};
 use std::io;
@@ -122,19 +122,23 @@ fn put_made<A: Archive>(
     memory: &mut [u8],
 ) -> Result<(), AllocError> {
     match call {
-        Call::Enrol {
-            account,
-            from_day,
-            supplier,
-        } => put_accepted(
+        Call::Enrol(
+            Entry {
+                account,
+                from_day,
+                supplier,
+            },
+        ) => put_accepted(
             out,
             roster.enrol(&days.book, *account, *from_day, *supplier),
         ),
-        Call::Switch {
-            account,
-            from_day,
-            supplier,
-        } => put_accepted(
+        Call::Switch(
+            Entry {
+                account,
+                from_day,
+                supplier,
+            },
+        ) => put_accepted(
             out,
             roster.switch(&days.book, *account, *from_day, *supplier),
         ),
