@@ -1,48 +1,31 @@
--- Numbers as `parse` reads them.
-use Rattle.std.proofs.Common.{◌≡◌, ℕ, ◌^◌, ◌<◌, ◌≤◌, true, false, ◌&&◌, List, [], ◌∷◌, length, Some, None, Ok, Err, Result, refl, ap, ◌∙◌, sym, arith, rules, inl, inr}
+-- Numbers read digit by digit.
+use Rattle.std.proofs.Common.{◌≡◌, ℕ, ◌+◌, ◌-◌, ◌*◌, ◌<◌, ◌≤◌, Bool, true, false, ◌&&◌, List, [], ◌∷◌, length, get_or, drop, Some, None, ap, ◌∙◌, arith}
 use Rattle.std.specs.Char.{is_ascii_digit}
-use Rattle.std.specs.List.{list_all}
-use Rattle.std.specs.Result.{OkIff, result_ok}
-use Rattle.std.specs.Str.{all_ascii_digits, IsAscii}
-use Rattle.std.specs.Str.Parse.{ParsesUnsigned}
-use Rattle.std.proofs.lemmas.Bool.{cases_lt}
+use Rattle.std.specs.Str.{all_ascii_digits}
+use Rattle.std.proofs.lemmas.List.{at_drop_more}
 use Rattle.std.proofs.lemmas.Bool.Decides.{nat_tests}
-use Rattle.std.proofs.lemmas.Fmt.{IsAscii-from_digits}
-use Rattle.std.proofs.lemmas.Str.Parse.{IsNumeralModel, numerals_by_fold, parse_digits}
 use Rattle.nookplover.specs.Numerals.{read_on, number_in}
 
-model : IsNumeralModel (λ ds. all_ascii_digits ds ≡ true) (read_on 0)
-model = numerals_by_fold _ (search rules) read_on (search rules)
+-- further digits never make the number smaller
+pub read_on_ge : (n : ℕ) (cs : List ℕ) → n ≤ read_on n cs
+read_on_ge n [] = omega arith
+read_on_ge n (c ∷ cs) = omega (arith, read_on_ge (n * 10 + (c - 48)) cs)
 
-pub same_digits : (w : List ℕ) → list_all is_ascii_digit w ≡ all_ascii_digits w
-same_digits [] = refl
-same_digits (c ∷ cs) = ap (λ b. is_ascii_digit c && b) (same_digits cs)
+module _ (w : List ℕ) (i : ℕ) (inside : i < length w) where
+  pub digits_left : (b : Bool) → is_ascii_digit (get_or w i 0) ≡ b → all_ascii_digits (drop i w) ≡ b && all_ascii_digits (drop (i + 1) w)
+  digits_left b e = at_drop_more all_ascii_digits w i 0 inside ∙ ap (λ x. x && all_ascii_digits (drop (i + 1) w)) e
 
-pub ascii_digits : (w : List ℕ) → all_ascii_digits w ≡ true → IsAscii w
-ascii_digits w e = IsAscii-from_digits w (model.to w e)
+  pub read_left : (n : ℕ) → read_on n (drop i w) ≡ read_on (n * 10 + (get_or w i 0 - 48)) (drop (i + 1) w)
+  read_left n = at_drop_more (read_on n) w i 0 inside
+
+pub none_from_empty : (w : List ℕ) → length w ≡ 0 → number_in w ≡ None
+none_from_empty w e = grind (arith, nat_tests)
 
 pub none_from_other : (w : List ℕ) → all_ascii_digits w ≡ false → number_in w ≡ None
 none_from_other w e = grind (arith, nat_tests)
 
-none_from_empty : (w : List ℕ) → length w ≡ 0 → number_in w ≡ None
-none_from_empty w e = grind (arith, nat_tests)
-
-none_from_large : (w : List ℕ) → 4294967295 < read_on 0 w → number_in w ≡ None
+pub none_from_large : (w : List ℕ) → 4294967295 < read_on 0 w → number_in w ≡ None
 none_from_large w h = grind (arith, nat_tests)
 
-some_from_digits : (w : List ℕ) → 0 < length w → all_ascii_digits w ≡ true → read_on 0 w ≤ 4294967295 → number_in w ≡ Some (read_on 0 w)
+pub some_from_digits : (w : List ℕ) → 0 < length w → all_ascii_digits w ≡ true → read_on 0 w ≤ 4294967295 → number_in w ≡ Some (read_on 0 w)
 some_from_digits w long digits small = grind (arith, nat_tests)
-
-module _ {E : Type 0} (w : List ℕ) (digits : all_ascii_digits w ≡ true) where
-  parsed : (r : Result ℕ E) → OkIff r ((0 < length w) × (read_on 0 w < 2 ^ 32)) (read_on 0 w) → result_ok r ≡ number_in w
-  parsed (Ok n) (fits, e) = ap Some e ∙ sym (some_from_digits w fits.0 digits (omega arith))
-  parsed (Err e) wrong = elim (cases_lt 0 (length w)) [
-    | inr none ↦ sym (none_from_empty w (omega arith))
-    | inl some ↦ elim (cases_lt 4294967295 (read_on 0 w)) [
-      | inl large ↦ sym (none_from_large w large)
-      | inr small ↦ absurd (wrong (some, omega arith))
-    ]
-  ]
-
-  pub number_parsed : (r : Result ℕ E) → ParsesUnsigned 32 10 w r → result_ok r ≡ number_in w
-  number_parsed r h = parsed r (parse_digits model 32 w r h digits)

@@ -106,9 +106,8 @@ impl<'a, 'e, A: Archive> Desk<'a, 'e, A> {
         }
     }
 
-    // Prints an answer, and what it is about: the listing, or the archive's rows.
-    fn print<W: Write>(&self, answer: Answer, output: &mut W) -> io::Result<()> {
-        write!(output, "{answer}")?;
+    // Prints what an answer is about: the listing, or the archive's rows.
+    fn print_after<W: Write>(&self, answer: Answer, output: &mut W) -> io::Result<()> {
         match answer {
             Answer::Listed(length) => {
                 output.write_all(&self.listing[..length.min(self.listing.len())])
@@ -142,10 +141,12 @@ impl<'a, 'e, A: Archive> Desk<'a, 'e, A> {
     /// Makes every call and prints what it answered, and at the end what is then open, and what archive and roster hold.
     pub(crate) fn run<W: Write>(&mut self, calls: &[Call], output: &mut W) -> io::Result<()> {
         for call in calls {
-            write!(output, "{call} -> ")?;
             match self.make(call) {
-                Ok(answer) => self.print(answer, output)?,
-                Err(denial) => write!(output, "{denial}")?,
+                Ok(answer) => {
+                    write!(output, "{call} -> {answer}")?;
+                    self.print_after(answer, output)?;
+                }
+                Err(denial) => write!(output, "{call} -> {denial}")?,
             }
         }
         self.print_end(output)?;

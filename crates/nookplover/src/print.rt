@@ -1,12 +1,14 @@
 //! What the program prints of calls and answers.
-ghost use Rattle.std.specs.Prelude.{◌≡◌, ◌<◌, Some};
+ghost use Rattle.std.specs.Prelude.{◌≡◌, ◌<◌, ◌≤◌, length, Some};
+ghost use Rattle.std.specs.Str.{IsAscii};
 ghost use Rattle.nookplover.specs.Numerals.{hex_digit, hex_of};
 ghost use Rattle.nookplover.specs.Texts.{call_words, answer_line, denial_line, end_line};
 
 use crate::answer::{Answer, Denial};
 use crate::call::Call;
+use arrayvec::ArrayVec;
 use book::Entry;
-use std::fmt;
+use std::{fmt, str};
 
 /// Bytes that print as two hexadecimal digits each, in capitals.
 #[derive(Clone, Copy)]
@@ -20,20 +22,37 @@ pub(crate) struct End {
     pub(crate) entries: usize,
 }
 
-fn hex_digit(n: u8) -> char
+fn hex_digit(n: u8) -> u8
     requires { n < 16 }
     ensures { result ≡ hex_digit n }
 {
-    char::from(if n < 10 { b'0' + n } else { b'A' + (n - 10) })
+    if n < 10 { b'0' + n } else { b'A' + (n - 10) }
+}
+
+fn hex_digits(bytes: &[u8]) -> ArrayVec<u8, 64>
+    requires { length bytes.now ≤ 32 }
+    ensures digits { result.items ≡ hex_of bytes.now }
+    ensures text { IsAscii result.items }
+{
+    let mut digits = ArrayVec::new();
+    for b in bytes {
+        digits.push(hex_digit(*b / 16));
+        digits.push(hex_digit(*b % 16));
+    }
+    digits
 }
 
 impl fmt::Display for Hex<'_> {
     ghost output = { λ h. Some (hex_of h.0.now) };
 
     fn fmt<W: fmt::Write>(&self, f: &mut fmt::Formatter<W>) -> fmt::Result {
-        for b in self.0 {
-            f.write_char(hex_digit(*b / 16))?;
-            f.write_char(hex_digit(*b % 16))?;
+        // To write each digit for itself takes four times as long.
+        for chunk in self.0.chunks(32) {
+            let digits = hex_digits(chunk);
+            let Ok(text) = str::from_utf8(digits.as_slice()) else {
+                unreachable!();
+            };
+            f.write_str(text)?;
         }
         Ok(())
     }
@@ -62,7 +81,7 @@ impl fmt::Display for Call {
             Call::Open { day, hours } => write!(f, "open {day} {hours}"),
             Call::Turn { day } => write!(f, "turn {day}"),
             Call::Close { day } => write!(f, "close {day}"),
-            Call::TakeIn(bytes) if bytes.is_empty() => write!(f, "takein"),
+            Call::TakeIn(bytes) if bytes.is_empty() => f.write_str("takein"),
             Call::TakeIn(bytes) => write!(f, "takein {}", Hex(bytes.as_slice())),
             Call::List {
                 day,
@@ -74,7 +93,7 @@ impl fmt::Display for Call {
                 hour,
                 bytes: Some(size),
             } => write!(f, "list {day} {hour} {size}"),
-            Call::Dump => write!(f, "dump"),
+            Call::Dump => f.write_str("dump"),
         }
     }
 }
@@ -84,7 +103,7 @@ impl fmt::Display for Answer {
 
     fn fmt<W: fmt::Write>(&self, f: &mut fmt::Formatter<W>) -> fmt::Result {
         match self {
-            Answer::Accepted => writeln!(f, "ok"),
+            Answer::Accepted => f.write_str("ok\n"),
             Answer::Waiting(hours) => writeln!(f, "{hours}"),
             Answer::Listed(length) => writeln!(f, "{length}"),
             Answer::Taken(rows) | Answer::Held(rows) => writeln!(f, "{rows} rows"),
@@ -97,7 +116,7 @@ impl fmt::Display for Denial {
 
     fn fmt<W: fmt::Write>(&self, f: &mut fmt::Formatter<W>) -> fmt::Result {
         match self {
-            Denial::NoSlip => writeln!(f, "no slip"),
+            Denial::NoSlip => f.write_str("no slip\n"),
             Denial::Refused(refusal) => {
                 let (number, layer, place) = refusal.numbers();
                 writeln!(f, "refused {number} {layer} {place}")

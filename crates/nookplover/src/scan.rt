@@ -6,7 +6,6 @@ ghost use Rattle.nookplover.specs.Words.{blank, without_return, TakesWord, Takes
 ghost use Rattle.nookplover.specs.Numerals.{number_in, hex_value, byte_pair, bytes_in};
 
 use std::alloc::{AllocError, Global};
-use std::str;
 
 /// The words that a line has left, in their order.
 #[derive(Clone, Copy)]
@@ -86,14 +85,18 @@ impl<'a> Iterator for Lines<'a> {
 pub(crate) fn number(word: &[u8]) -> Option<u32>
     ensures { result ≡ number_in word.now }
 {
-    // `parse` would take a sign too.
-    if !word.iter().all(|b| b.is_ascii_digit()) {
+    if word.is_empty() {
         return None;
     }
-    let Ok(digits) = str::from_utf8(word) else {
-        unreachable!();
-    };
-    digits.parse::<u32>().ok()
+    let mut value = 0u32;
+    // `parse` takes longer: it wants text, and a sign has to be kept from it.
+    for b in word {
+        if !b.is_ascii_digit() {
+            return None;
+        }
+        value = value.checked_mul(10)?.checked_add(u32::from(*b - b'0'))?;
+    }
+    Some(value)
 }
 
 fn hex_value(b: u8) -> Option<u8>
