@@ -1,4 +1,4 @@
 pub mod Decimals
 pub mod Pairs
 pub mod Lines
-pub mod Putting
+pub mod Hexadecimal

@@ -5,6 +5,10 @@ use Rattle.refusals.specs.declared.Refusal.{Refusal}
 use Rattle.refusals.specs.Numbers.{number_of, layer_number}
 use Rattle.nookplover.specs.declared.call.Call.{Call}
 use Rattle.nookplover.specs.declared.call.Call.TheVariants.{Enrol, Switch, Drop, Open, Turn, Close, TakeIn, List as Listing, Dump}
+use Rattle.nookplover.specs.declared.answer.Answer.{Answer}
+use Rattle.nookplover.specs.declared.answer.Answer.TheVariants.{Accepted, Waiting, Taken, Listed, Held}
+use Rattle.nookplover.specs.declared.answer.Denial.{Denial}
+use Rattle.nookplover.specs.declared.answer.Denial.TheVariants.{NoSlip, Refused}
 use Rattle.nookplover.specs.Numerals.{hex_of}
 
 -- a space and a number
@@ -28,8 +32,8 @@ list_words day hour None = worded (codes "list") (day ∷ hour ∷ [])
 list_words day hour (Some bytes) = worded (codes "list") (day ∷ hour ∷ bytes ∷ [])
 
 abbrev pub call_words : Call → List ℕ
-call_words (Enrol account from supplier) = worded (codes "enrol") (account ∷ from ∷ supplier ∷ [])
-call_words (Switch account from supplier) = worded (codes "switch") (account ∷ from ∷ supplier ∷ [])
+call_words (Enrol e) = worded (codes "enrol") (e.account ∷ e.from_day ∷ e.supplier ∷ [])
+call_words (Switch e) = worded (codes "switch") (e.account ∷ e.from_day ∷ e.supplier ∷ [])
 call_words (Drop account from) = worded (codes "drop") (account ∷ from ∷ [])
 call_words (Open day hours) = worded (codes "open") (day ∷ hours ∷ [])
 call_words (Turn day) = worded (codes "turn") (day ∷ [])
@@ -49,3 +53,15 @@ rows_line n = decimal n ++ (codes " rows" ++ 10 ∷ [])
 
 abbrev pub end_line : ℕ → ℕ → ℕ → List ℕ
 end_line rows free entries = codes "end: " ++ ((decimal rows ++ codes " rows, ") ++ ((decimal free ++ codes " free, ") ++ (decimal entries ++ (codes " entries" ++ 10 ∷ []))))
+
+-- the line of an answer
+abbrev pub answer_line : Answer → List ℕ
+answer_line Accepted = codes "ok" ++ 10 ∷ []
+answer_line (Waiting hours) = number_line hours
+answer_line (Taken rows) = rows_line rows
+answer_line (Listed length) = number_line length
+answer_line (Held rows) = rows_line rows
+
+abbrev pub denial_line : Denial → List ℕ
+denial_line NoSlip = codes "no slip" ++ 10 ∷ []
+denial_line (Refused refusal) = refused_line refusal

@@ -1,4 +1,5 @@
 //! The calls of a journal, as they were read.
+use book::Entry;
 
 /// The archive that a journal asks for.
 #[derive(Clone, Copy)]
@@ -12,16 +13,8 @@ pub(crate) enum Holding {
 /// A call. Its figures are as the journal has them: the call itself refuses one that is out of its range.
 #[derive(Drop)]
 pub(crate) enum Call {
-    Enrol {
-        account: u32,
-        from_day: u32,
-        supplier: u32,
-    },
-    Switch {
-        account: u32,
-        from_day: u32,
-        supplier: u32,
-    },
+    Enrol(Entry),
+    Switch(Entry),
     Drop {
         account: u32,
         from_day: u32,

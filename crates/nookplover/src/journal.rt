@@ -1,7 +1,7 @@
 //! The journal as a whole.
 use crate::call::{Call, Holding};
 use crate::line::{Line, Problem, read_line};
-use crate::scan::next_line;
+use crate::scan::Lines;
 use std::alloc::Global;
 use std::fmt;
 
@@ -41,45 +41,29 @@ impl Journal {
     // Roster and archive are chosen before the first call; the last choice counts.
     fn add(&mut self, line: Line) -> Result<(), Problem> {
         match line {
-            Line::Nothing => {}
             Line::Call(call) => self.calls.push(call)?,
-            Line::Roster(places) => {
-                if !self.calls.is_empty() {
-                    return Err(Problem::TooLate);
-                }
-                self.roster = places;
-            }
-            Line::Archive(holding) => {
-                if !self.calls.is_empty() {
-                    return Err(Problem::TooLate);
-                }
-                self.holding = holding;
-            }
+            _ if !self.calls.is_empty() => return Err(Problem::TooLate),
+            Line::Roster(places) => self.roster = places,
+            Line::Archive(holding) => self.holding = holding,
         }
         Ok(())
     }
 
     fn read(&mut self, heap: Global, line: &[u8]) -> Result<(), Problem> {
-        let line = read_line(heap, line)?;
-        self.add(line)
+        match read_line(heap, line)? {
+            Some(line) => self.add(line),
+            None => Ok(()),
+        }
     }
 }
 
 /// Reads a whole journal, or tells the first line that cannot be read.
 pub(crate) fn read_journal(heap: Global, text: &[u8]) -> Result<Journal, Unreadable> {
     let mut journal = Journal::new(heap);
-    let mut rest = text;
-    let mut lines = 0usize;
-    while !rest.is_empty() {
-        let cut = next_line(rest);
-        rest = cut.rest;
-        lines += 1;
-        if let Err(problem) = journal.read(heap, cut.front) {
-            return Err(Unreadable {
-                line: lines,
-                problem,
-            });
-        }
+    for (line, bytes) in (1..).zip(Lines::new(text)) {
+        journal
+            .read(heap, bytes)
+            .map_err(|problem| Unreadable { line, problem })?;
     }
     Ok(journal)
 }

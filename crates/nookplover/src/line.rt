@@ -1,14 +1,13 @@
 //! One line of a journal: what it says, or why it cannot be read.
 use crate::call::{Call, Holding};
-use crate::scan::{bytes_in, next_word, number};
+use crate::scan::{Words, bytes_in, number};
+use book::Entry;
 use std::alloc::{AllocError, AllocFailed, Global};
 use std::fmt;
 
 /// What a line says.
 #[derive(Drop)]
 pub(crate) enum Line {
-    /// It is blank, or a comment.
-    Nothing,
     /// The roster has so many places.
     Roster(u32),
     /// The archive is of that kind.
@@ -45,7 +44,7 @@ impl<T: Drop> From<AllocFailed<T>> for Problem {
 
 impl fmt::Display for Problem {
     fn fmt<W: fmt::Write>(&self, f: &mut fmt::Formatter<W>) -> fmt::Result {
-        let what = match self {
+        f.write_str(match self {
             Problem::UnknownWord => "unknown word",
             Problem::WordMissing => "too few words",
             Problem::WordTooMany => "too many words",
@@ -55,164 +54,129 @@ impl fmt::Display for Problem {
             Problem::NoArchive => "no such archive",
             Problem::TooLate => "roster and archive are chosen before the first call",
             Problem::NoMemory => "no memory left",
-        };
-        write!(f, "{what}")
+        })
     }
 }
 
-/// A number at the front of a line, and the rest.
-#[derive(Clone, Copy)]
-struct Figure<'a> {
-    value: u32,
-    rest: &'a [u8],
+fn figure_in(word: &[u8]) -> Result<u32, Problem> {
+    number(word).ok_or(Problem::NoNumber)
 }
 
-fn next_figure(line: &[u8]) -> Result<Figure<'_>, Problem> {
-    let word = next_word(line);
-    if word.front.is_empty() {
-        return Err(Problem::WordMissing);
-    }
-    match number(word.front) {
-        Some(value) => Ok(Figure {
-            value,
-            rest: word.rest,
-        }),
-        None => Err(Problem::NoNumber),
-    }
-}
-
-fn at_end(line: &[u8]) -> Result<(), Problem> {
-    if next_word(line).front.is_empty() {
-        Ok(())
-    } else {
-        Err(Problem::WordTooMany)
-    }
-}
-
-// One number, which ends the line.
-fn read_one(line: &[u8]) -> Result<u32, Problem> {
-    let figure = next_figure(line)?;
-    at_end(figure.rest)?;
-    Ok(figure.value)
-}
-
-fn read_one_up_to(line: &[u8], most: u32) -> Result<u32, Problem> {
-    let value = read_one(line)?;
+fn up_to(most: u32, value: u32) -> Result<u32, Problem> {
     if value > most {
         return Err(Problem::TooLarge);
     }
     Ok(value)
 }
 
-fn read_two(line: &[u8]) -> Result<(u32, u32), Problem> {
-    let first = next_figure(line)?;
-    let second = read_one(first.rest)?;
-    Ok((first.value, second))
-}
+impl Words<'_> {
+    fn figure(&mut self) -> Result<u32, Problem> {
+        figure_in(self.next().ok_or(Problem::WordMissing)?)
+    }
 
-fn read_three(line: &[u8]) -> Result<(u32, u32, u32), Problem> {
-    let first = next_figure(line)?;
-    let (second, third) = read_two(first.rest)?;
-    Ok((first.value, second, third))
+    fn end(&mut self) -> Result<(), Problem> {
+        if self.next().is_some() {
+            return Err(Problem::WordTooMany);
+        }
+        Ok(())
+    }
+
+    // So many numbers, which end the line.
+    fn figures<const N: usize>(&mut self) -> Result<[u32; N], Problem> {
+        let mut figures = [0; N];
+        for figure in figures.iter_mut() {
+            *figure = self.figure()?;
+        }
+        self.end()?;
+        Ok(figures)
+    }
+
+    fn entry(&mut self) -> Result<Entry, Problem> {
+        let [account, from_day, supplier] = self.figures::<3>()?;
+        Ok(Entry {
+            account,
+            from_day,
+            supplier,
+        })
+    }
 }
 
 // `archive bytes BYTES` or `archive table`.
-fn read_archive(line: &[u8]) -> Result<Holding, Problem> {
-    let form = next_word(line);
-    match form.front {
-        b"bytes" => Ok(Holding::Bytes(read_one_up_to(form.rest, 2_000_000)?)),
-        b"table" => {
-            at_end(form.rest)?;
+fn read_archive(words: &mut Words) -> Result<Holding, Problem> {
+    match words.next() {
+        Some(b"bytes") => {
+            let [size] = words.figures::<1>()?;
+            Ok(Holding::Bytes(up_to(2_000_000, size)?))
+        }
+        Some(b"table") => {
+            words.end()?;
             Ok(Holding::Table)
         }
-        [] => Err(Problem::WordMissing),
-        _ => Err(Problem::NoArchive),
+        Some(_) => Err(Problem::NoArchive),
+        None => Err(Problem::WordMissing),
     }
 }
 
 // `takein HEX`, or `takein` alone for no bytes.
-fn read_take_in(heap: Global, line: &[u8]) -> Result<Call, Problem> {
-    let word = next_word(line);
-    at_end(word.rest)?;
-    match bytes_in(heap, word.front)? {
-        Some(bytes) => Ok(Call::TakeIn(bytes)),
-        None => Err(Problem::NoBytes),
-    }
+fn read_take_in(heap: Global, words: &mut Words) -> Result<Call, Problem> {
+    let digits = words.next().unwrap_or_default();
+    words.end()?;
+    let bytes = bytes_in(heap, digits)?.ok_or(Problem::NoBytes)?;
+    Ok(Call::TakeIn(bytes))
 }
 
 // `list DAY HOUR`, or `list DAY HOUR BYTES`.
-fn read_list(line: &[u8]) -> Result<Call, Problem> {
-    let first = next_figure(line)?;
-    let second = next_figure(first.rest)?;
-    let mut bytes = None;
-    if at_end(second.rest).is_err() {
-        bytes = Some(read_one_up_to(second.rest, 1_000_000)?);
-    }
-    Ok(Call::List {
-        day: first.value,
-        hour: second.value,
-        bytes,
-    })
-}
-
-fn read_enrol(line: &[u8]) -> Result<Call, Problem> {
-    let (account, from_day, supplier) = read_three(line)?;
-    Ok(Call::Enrol {
-        account,
-        from_day,
-        supplier,
-    })
-}
-
-fn read_switch(line: &[u8]) -> Result<Call, Problem> {
-    let (account, from_day, supplier) = read_three(line)?;
-    Ok(Call::Switch {
-        account,
-        from_day,
-        supplier,
-    })
-}
-
-fn read_drop(line: &[u8]) -> Result<Call, Problem> {
-    let (account, from_day) = read_two(line)?;
-    Ok(Call::Drop { account, from_day })
-}
-
-fn read_open(line: &[u8]) -> Result<Call, Problem> {
-    let (day, hours) = read_two(line)?;
-    Ok(Call::Open { day, hours })
+fn read_list(words: &mut Words) -> Result<Call, Problem> {
+    let day = words.figure()?;
+    let hour = words.figure()?;
+    let bytes = words.next().map(figure_in).transpose()?;
+    words.end()?;
+    let bytes = bytes.map(|size| up_to(1_000_000, size)).transpose()?;
+    Ok(Call::List { day, hour, bytes })
 }
 
 // The calls by their first word.
-fn read_call(heap: Global, word: &[u8], rest: &[u8]) -> Result<Call, Problem> {
+fn read_call(heap: Global, word: &[u8], words: &mut Words) -> Result<Call, Problem> {
     match word {
-        b"enrol" => read_enrol(rest),
-        b"switch" => read_switch(rest),
-        b"drop" => read_drop(rest),
-        b"open" => read_open(rest),
-        b"turn" => Ok(Call::Turn {
-            day: read_one(rest)?,
-        }),
-        b"close" => Ok(Call::Close {
-            day: read_one(rest)?,
-        }),
-        b"takein" => read_take_in(heap, rest),
-        b"list" => read_list(rest),
+        b"enrol" => Ok(Call::Enrol(words.entry()?)),
+        b"switch" => Ok(Call::Switch(words.entry()?)),
+        b"drop" => {
+            let [account, from_day] = words.figures::<2>()?;
+            Ok(Call::Drop { account, from_day })
+        }
+        b"open" => {
+            let [day, hours] = words.figures::<2>()?;
+            Ok(Call::Open { day, hours })
+        }
+        b"turn" => {
+            let [day] = words.figures::<1>()?;
+            Ok(Call::Turn { day })
+        }
+        b"close" => {
+            let [day] = words.figures::<1>()?;
+            Ok(Call::Close { day })
+        }
+        b"takein" => read_take_in(heap, words),
+        b"list" => read_list(words),
         b"dump" => {
-            at_end(rest)?;
+            words.end()?;
             Ok(Call::Dump)
         }
         _ => Err(Problem::UnknownWord),
     }
 }
 
-/// Reads a line.
-pub(crate) fn read_line(heap: Global, line: &[u8]) -> Result<Line, Problem> {
-    let word = next_word(line);
-    match word.front {
-        [] | [b'#', ..] => Ok(Line::Nothing),
-        b"roster" => Ok(Line::Roster(read_one_up_to(word.rest, 1_000_000)?)),
-        b"archive" => Ok(Line::Archive(read_archive(word.rest)?)),
-        _ => Ok(Line::Call(read_call(heap, word.front, word.rest)?)),
-    }
+/// Reads a line: nothing where it is blank, or a comment.
+pub(crate) fn read_line(heap: Global, line: &[u8]) -> Result<Option<Line>, Problem> {
+    let mut words = Words::new(line);
+    let line = match words.next() {
+        None | Some([b'#', ..]) => return Ok(None),
+        Some(b"roster") => {
+            let [places] = words.figures::<1>()?;
+            Line::Roster(up_to(1_000_000, places)?)
+        }
+        Some(b"archive") => Line::Archive(read_archive(&mut words)?),
+        Some(word) => Line::Call(read_call(heap, word, &mut words)?),
+    };
+    Ok(Some(line))
 }

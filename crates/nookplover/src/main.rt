@@ -1,27 +1,31 @@
 //! `nookplover`: reads a journal of calls, makes each, and prints what it did.
 #![tactic(auto)]
 
+use archive::Archive;
 use archive::bytes::ByteArchive;
 use archive::table::TableArchive;
 use book::{Entry, Roster};
 use call::Holding;
+use desk::Desk;
 use journal::{Journal, Unreadable, read_journal};
-use run::{Days, run};
-use std::alloc::AllocError;
-use std::io::Read;
+use std::io::{BufWriter, Read};
 use std::process::ExitCode;
 use std::{env, fmt, fs, io};
 
+mod answer;
 mod call;
+mod desk;
 mod journal;
 mod line;
 mod print;
-mod run;
 mod scan;
 mod slips;
 
 // A listing may be given so many bytes at most; every listing fits them.
 const LISTING: usize = 1_000_000;
+
+// Text that waits is written once there is so much of it.
+const WAITING: usize = 65_536;
 
 /// Where the journal comes from.
 #[derive(Drop)]
@@ -37,13 +41,6 @@ enum Failure {
     Journal(Unreadable),
     Input(io::Error),
     Output(io::Error),
-    Memory,
-}
-
-impl From<AllocError> for Failure {
-    fn from(_e: AllocError) -> Failure {
-        Failure::Memory
-    }
 }
 
 impl fmt::Display for Failure {
@@ -53,7 +50,6 @@ impl fmt::Display for Failure {
             Failure::Journal(unreadable) => write!(f, "{unreadable}"),
             Failure::Input(e) => write!(f, "nookplover: the journal cannot be read: {e}"),
             Failure::Output(e) => write!(f, "nookplover: the output cannot be written: {e}"),
-            Failure::Memory => write!(f, "nookplover: no memory left"),
         }
     }
 }
@@ -66,16 +62,13 @@ fn find_source(rt: &HostRuntime) -> Result<Source, Failure> {
     let Some(verb) = words.next() else {
         return Ok(Source::Input);
     };
-    let Some(name) = words.next() else {
-        return Err(Failure::Usage);
-    };
-    if words.next().is_some() || verb.as_str() != "run" {
-        return Err(Failure::Usage);
+    match (words.next(), words.next()) {
+        (Some(name), None) if verb.as_str() == "run" => match name.as_str() {
+            "-" => Ok(Source::Input),
+            _ => Ok(Source::File(name)),
+        },
+        _ => Err(Failure::Usage),
     }
-    if name.as_str() == "-" {
-        return Ok(Source::Input);
-    }
-    Ok(Source::File(name))
 }
 
 fn read_all(rt: &HostRuntime, source: &Source) -> io::Result<Vec<u8>> {
@@ -89,77 +82,40 @@ fn read_all(rt: &HostRuntime, source: &Source) -> io::Result<Vec<u8>> {
     }
 }
 
-// Runs the journal with the archive that it asks for.
-fn run_on(
-    rt: &HostRuntime,
-    days: &mut Days,
-    roster: &mut Roster,
-    journal: &Journal,
-    listing: &mut [u8],
-) -> io::Result<()> {
-    let heap = rt.alloc();
-    let mut out = Vec::new(heap);
-    let mut output = rt.stdout();
-    match journal.holding {
-        Holding::Bytes(size) => {
-            let mut memory = vec![in heap; 0u8; size as usize]?;
-            let mut archive = ByteArchive::new(&mut memory);
-            run(
-                days,
-                roster,
-                &mut archive,
-                &journal.calls,
-                listing,
-                &mut out,
-                &mut output,
-            )
-        }
-        Holding::Table => {
-            let mut archive = TableArchive::new();
-            run(
-                days,
-                roster,
-                &mut archive,
-                &journal.calls,
-                listing,
-                &mut out,
-                &mut output,
-            )
-        }
-    }
-}
-
 // Slips that are open at the end are closed whatever came, since they must be.
-fn run_journal(rt: &HostRuntime, journal: &Journal) -> io::Result<()> {
+fn run_on<A: Archive>(rt: &HostRuntime, journal: &Journal, archive: &mut A) -> io::Result<()> {
     let heap = rt.alloc();
     let nobody = Entry {
         account: 0,
         from_day: 0,
         supplier: 0,
     };
-    let mut listing = vec![in heap; 0u8; LISTING]?;
     let mut entries = vec![in heap; nobody; journal.roster as usize]?;
-    let mut days = Days::new(heap)?;
+    let mut listing = vec![in heap; 0u8; LISTING]?;
+    let mut output = BufWriter::with_capacity(heap, WAITING, rt.stdout())?;
     let mut roster = Roster::new(&mut entries);
-    let ran = run_on(rt, &mut days, &mut roster, journal, &mut listing);
-    days.close_all();
+    let mut desk = Desk::new(heap, &mut roster, archive, &mut listing)?;
+    let ran = desk.run(&journal.calls, &mut output);
+    desk.close();
     ran
+}
+
+// Runs the journal with the archive that it asks for.
+fn run_journal(rt: &HostRuntime, journal: &Journal) -> io::Result<()> {
+    match journal.holding {
+        Holding::Bytes(size) => {
+            let mut memory = vec![in rt.alloc(); 0u8; size as usize]?;
+            run_on(rt, journal, &mut ByteArchive::new(&mut memory))
+        }
+        Holding::Table => run_on(rt, journal, &mut TableArchive::new()),
+    }
 }
 
 fn program(rt: &HostRuntime) -> Result<(), Failure> {
     let source = find_source(rt)?;
-    let text = match read_all(rt, &source) {
-        Ok(text) => text,
-        Err(e) => return Err(Failure::Input(e)),
-    };
-    let journal = match read_journal(rt.alloc(), text.as_slice()) {
-        Ok(journal) => journal,
-        Err(unreadable) => return Err(Failure::Journal(unreadable)),
-    };
-    match run_journal(rt, &journal) {
-        Ok(()) => Ok(()),
-        Err(e) => Err(Failure::Output(e)),
-    }
+    let text = read_all(rt, &source).map_err(Failure::Input)?;
+    let journal = read_journal(rt.alloc(), text.as_slice()).map_err(Failure::Journal)?;
+    run_journal(rt, &journal).map_err(Failure::Output)
 }
 
 // A failure is told in one line of its own, so `main` answers a status and no error.

@@ -1,20 +1,25 @@
-//! What the program prints, as bytes put after those that wait to be written.
-ghost use Rattle.std.specs.Prelude.{◌≡◌, ◌<◌, ◌++◌, decimal, OnOk};
+//! What the program prints of calls and answers.
+ghost use Rattle.std.specs.Prelude.{◌≡◌, ◌<◌, ◌≤◌, length, Some};
+ghost use Rattle.std.specs.Str.{IsAscii};
 ghost use Rattle.nookplover.specs.Numerals.{hex_digit, hex_of};
-ghost use Rattle.nookplover.specs.Texts.{spaced, worded, take_in_words, list_words, call_words, refused_line, number_line, rows_line, end_line};
+ghost use Rattle.nookplover.specs.Texts.{call_words, answer_line, denial_line, end_line};
 
+use crate::answer::{Answer, Denial};
 use crate::call::Call;
-use refusals::Refusal;
-use std::alloc::AllocError;
+use arrayvec::ArrayVec;
+use book::Entry;
+use std::{fmt, str};
 
-fn put_number(out: &mut Vec<u8>, n: u64) -> Result<(), AllocError>
-    ensures { OnOk result (out.new.items ≡ out.old.items ++ decimal n) }
-{
-    if n >= 10 {
-        put_number(out, n / 10)?;
-    }
-    out.push(b'0' + (n % 10) as u8)?;
-    Ok(())
+/// Bytes that print as two hexadecimal digits each, in capitals.
+#[derive(Clone, Copy)]
+pub(crate) struct Hex<'a>(pub(crate) &'a [u8]);
+
+/// The closing line: what archive and roster hold.
+#[derive(Clone, Copy)]
+pub(crate) struct End {
+    pub(crate) rows: usize,
+    pub(crate) free: usize,
+    pub(crate) entries: usize,
 }
 
 fn hex_digit(n: u8) -> u8
@@ -24,139 +29,111 @@ fn hex_digit(n: u8) -> u8
     if n < 10 { b'0' + n } else { b'A' + (n - 10) }
 }
 
-/// Each byte as two hexadecimal digits, in capitals.
-pub(crate) fn put_hex(out: &mut Vec<u8>, bytes: &[u8]) -> Result<(), AllocError>
-    ensures { OnOk result (out.new.items ≡ out.old.items ++ hex_of bytes.now) }
+fn hex_digits(bytes: &[u8]) -> ArrayVec<u8, 64>
+    requires { length bytes.now ≤ 32 }
+    ensures digits { result.items ≡ hex_of bytes.now }
+    ensures text { IsAscii result.items }
 {
+    let mut digits = ArrayVec::new();
     for b in bytes {
-        out.push(hex_digit(*b / 16))?;
-        out.push(hex_digit(*b % 16))?;
+        digits.push(hex_digit(*b / 16));
+        digits.push(hex_digit(*b % 16));
     }
-    Ok(())
+    digits
 }
 
-// A space and a number.
-fn put_spaced(out: &mut Vec<u8>, n: u64) -> Result<(), AllocError>
-    ensures { OnOk result (out.new.items ≡ out.old.items ++ spaced n) }
-{
-    out.push(b' ')?;
-    put_number(out, n)?;
-    Ok(())
-}
+impl fmt::Display for Hex<'_> {
+    ghost output = { λ h. Some (hex_of h.0.now) };
 
-/// Words, and numbers after them.
-pub(crate) fn put_words(out: &mut Vec<u8>, words: &[u8], figures: &[u64]) -> Result<(), AllocError>
-    ensures { OnOk result (out.new.items ≡ out.old.items ++ worded words.now figures.now) }
-{
-    out.extend_from_slice(words)?;
-    for n in figures {
-        put_spaced(out, *n)?;
-    }
-    Ok(())
-}
-
-fn put_take_in(out: &mut Vec<u8>, bytes: &[u8]) -> Result<(), AllocError>
-    ensures { OnOk result (out.new.items ≡ out.old.items ++ take_in_words bytes.now) }
-{
-    out.extend_from_slice(b"takein")?;
-    if bytes.is_empty() {
-        return Ok(());
-    }
-    out.push(b' ')?;
-    put_hex(out, bytes)?;
-    Ok(())
-}
-
-fn put_list(out: &mut Vec<u8>, day: u32, hour: u32, bytes: Option<u32>) -> Result<(), AllocError>
-    ensures { OnOk result (out.new.items ≡ out.old.items ++ list_words day hour bytes) }
-{
-    match bytes {
-        Some(size) => put_words(out, b"list", &[day as u64, hour as u64, size as u64]),
-        None => put_words(out, b"list", &[day as u64, hour as u64]),
-    }
-}
-
-/// The words of a call.
-pub(crate) fn put_call(out: &mut Vec<u8>, call: &Call) -> Result<(), AllocError>
-    ensures { OnOk result (out.new.items ≡ out.old.items ++ call_words call.now) }
-{
-    match call {
-        Call::Enrol {
-            account,
-            from_day,
-            supplier,
-        } => put_words(
-            out,
-            b"enrol",
-            &[*account as u64, *from_day as u64, *supplier as u64],
-        ),
-        Call::Switch {
-            account,
-            from_day,
-            supplier,
-        } => put_words(
-            out,
-            b"switch",
-            &[*account as u64, *from_day as u64, *supplier as u64],
-        ),
-        Call::Drop { account, from_day } => {
-            put_words(out, b"drop", &[*account as u64, *from_day as u64])
+    fn fmt<W: fmt::Write>(&self, f: &mut fmt::Formatter<W>) -> fmt::Result {
+        // To write each digit for itself takes four times as long.
+        for chunk in self.0.chunks(32) {
+            let digits = hex_digits(chunk);
+            let Ok(text) = str::from_utf8(digits.as_slice()) else {
+                unreachable!();
+            };
+            f.write_str(text)?;
         }
-        Call::Open { day, hours } => put_words(out, b"open", &[*day as u64, *hours as u64]),
-        Call::Turn { day } => put_words(out, b"turn", &[*day as u64]),
-        Call::Close { day } => put_words(out, b"close", &[*day as u64]),
-        Call::TakeIn(bytes) => put_take_in(out, bytes.as_slice()),
-        Call::List { day, hour, bytes } => put_list(out, *day, *hour, *bytes),
-        Call::Dump => put_words(out, b"dump", &[]),
+        Ok(())
     }
 }
 
-/// The line `refused NUMBER LAYER PLACE`.
-pub(crate) fn put_refusal(out: &mut Vec<u8>, refusal: Refusal) -> Result<(), AllocError>
-    ensures { OnOk result (out.new.items ≡ out.old.items ++ refused_line refusal) }
-{
-    let number = refusal.cause.number() as u64;
-    let layer = refusal.layer.number() as u64;
-    put_words(out, b"refused", &[number, layer, refusal.place as u64])?;
-    out.push(b'\n')?;
-    Ok(())
+impl fmt::Display for Call {
+    ghost output = { λ c. Some (call_words c) };
+
+    fn fmt<W: fmt::Write>(&self, f: &mut fmt::Formatter<W>) -> fmt::Result {
+        match self {
+            Call::Enrol(
+                Entry {
+                    account,
+                    from_day,
+                    supplier,
+                },
+            ) => write!(f, "enrol {account} {from_day} {supplier}"),
+            Call::Switch(
+                Entry {
+                    account,
+                    from_day,
+                    supplier,
+                },
+            ) => write!(f, "switch {account} {from_day} {supplier}"),
+            Call::Drop { account, from_day } => write!(f, "drop {account} {from_day}"),
+            Call::Open { day, hours } => write!(f, "open {day} {hours}"),
+            Call::Turn { day } => write!(f, "turn {day}"),
+            Call::Close { day } => write!(f, "close {day}"),
+            Call::TakeIn(bytes) if bytes.is_empty() => f.write_str("takein"),
+            Call::TakeIn(bytes) => write!(f, "takein {}", Hex(bytes.as_slice())),
+            Call::List {
+                day,
+                hour,
+                bytes: None,
+            } => write!(f, "list {day} {hour}"),
+            Call::List {
+                day,
+                hour,
+                bytes: Some(size),
+            } => write!(f, "list {day} {hour} {size}"),
+            Call::Dump => f.write_str("dump"),
+        }
+    }
 }
 
-// A number, and what follows it.
-fn put_count(out: &mut Vec<u8>, n: usize, unit: &[u8]) -> Result<(), AllocError>
-    ensures { OnOk result (out.new.items ≡ out.old.items ++ (decimal n ++ unit.now)) }
-{
-    put_number(out, n as u64)?;
-    out.extend_from_slice(unit)?;
-    Ok(())
+impl fmt::Display for Answer {
+    ghost output = { λ a. Some (answer_line a) };
+
+    fn fmt<W: fmt::Write>(&self, f: &mut fmt::Formatter<W>) -> fmt::Result {
+        match self {
+            Answer::Accepted => f.write_str("ok\n"),
+            Answer::Waiting(hours) => writeln!(f, "{hours}"),
+            Answer::Listed(length) => writeln!(f, "{length}"),
+            Answer::Taken(rows) | Answer::Held(rows) => writeln!(f, "{rows} rows"),
+        }
+    }
 }
 
-/// The line of a number.
-pub(crate) fn put_answer(out: &mut Vec<u8>, n: usize) -> Result<(), AllocError>
-    ensures { OnOk result (out.new.items ≡ out.old.items ++ number_line n) }
-{
-    put_count(out, n, b"\n")
+impl fmt::Display for Denial {
+    ghost output = { λ d. Some (denial_line d) };
+
+    fn fmt<W: fmt::Write>(&self, f: &mut fmt::Formatter<W>) -> fmt::Result {
+        match self {
+            Denial::NoSlip => f.write_str("no slip\n"),
+            Denial::Refused(refusal) => {
+                let (number, layer, place) = refusal.numbers();
+                writeln!(f, "refused {number} {layer} {place}")
+            }
+        }
+    }
 }
 
-/// The line `N rows`.
-pub(crate) fn put_rows(out: &mut Vec<u8>, rows: usize) -> Result<(), AllocError>
-    ensures { OnOk result (out.new.items ≡ out.old.items ++ rows_line rows) }
-{
-    put_count(out, rows, b" rows\n")
-}
+impl fmt::Display for End {
+    ghost output = { λ e. Some (end_line e.rows e.free e.entries) };
 
-/// The line `end: R rows, F free, E entries`.
-pub(crate) fn put_end(
-    out: &mut Vec<u8>,
-    rows: usize,
-    free: usize,
-    entries: usize,
-) -> Result<(), AllocError>
-    ensures { OnOk result (out.new.items ≡ out.old.items ++ end_line rows free entries) }
-{
-    out.extend_from_slice(b"end: ")?;
-    put_count(out, rows, b" rows, ")?;
-    put_count(out, free, b" free, ")?;
-    put_count(out, entries, b" entries\n")?;
-    Ok(())
+    fn fmt<W: fmt::Write>(&self, f: &mut fmt::Formatter<W>) -> fmt::Result {
+        let End {
+            rows,
+            free,
+            entries,
+        } = self;
+        writeln!(f, "end: {rows} rows, {free} free, {entries} entries")
+    }
 }

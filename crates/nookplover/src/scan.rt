@@ -1,94 +1,83 @@
 //! The bytes of a journal: lines, words, numbers and hexadecimal pairs.
-ghost use Rattle.std.specs.Prelude.{◌≡◌, ◌≤◌, length, IfOk, vec_items};
-ghost use Rattle.std.specs.List.{prefix_len};
+ghost use Rattle.std.specs.Prelude.{◌≡◌, length, IfOk, vec_items};
+ghost use Rattle.std.specs.Iterator.{at_most};
 ghost use Rattle.std.specs.Option.{option_map};
-ghost use Rattle.nookplover.specs.Words.{belongs, first_word, after_word, without_return, first_line, after_line};
+ghost use Rattle.nookplover.specs.Words.{blank, without_return, TakesWord, TakesLine};
 ghost use Rattle.nookplover.specs.Numerals.{number_in, hex_value, byte_pair, bytes_in};
 
 use std::alloc::{AllocError, Global};
 
-/// What a stretch of bytes is made of.
+/// The words that a line has left, in their order.
 #[derive(Clone, Copy)]
-pub(crate) enum Stretch {
-    /// Spaces and tabs.
-    Blank,
-    /// Neither.
-    Word,
-    /// All but the end of a line.
-    Line,
-}
+pub(crate) struct Words<'a>(&'a [u8]);
 
-/// The bytes cut from the front, and those that follow.
+/// The lines that a text has left, in their order, each without its end (LF, or CR and LF).
 #[derive(Clone, Copy)]
-pub(crate) struct Cut<'a> {
-    pub(crate) front: &'a [u8],
-    pub(crate) rest: &'a [u8],
-}
+pub(crate) struct Lines<'a>(&'a [u8]);
 
-fn is_of(stretch: Stretch, b: u8) -> bool
-    ensures { result ≡ belongs stretch b }
+fn is_blank(b: u8) -> bool
+    ensures { result ≡ blank b }
 {
-    match stretch {
-        Stretch::Blank => b == b' ' || b == b'\t',
-        Stretch::Word => b != b' ' && b != b'\t',
-        Stretch::Line => b != b'\n',
+    matches!(b, b' ' | b'\t')
+}
+
+impl<'a> Words<'a> {
+    /// The words of a line.
+    pub(crate) fn new(line: &'a [u8]) -> Words<'a> {
+        Words(line)
     }
 }
 
-// How many bytes at the front belong to the stretch.
-fn span(bytes: &[u8], stretch: Stretch) -> usize
-    ensures count { result ≡ prefix_len (belongs stretch) bytes.now }
-    ensures within { result ≤ length bytes.now }
-{
-    for (i, b) in bytes.iter().enumerate() {
-        if !is_of(stretch, *b) {
-            return i;
-        }
-    }
-    bytes.len()
-}
+impl<'a> Iterator for Words<'a> {
+    type Item = &'a [u8];
 
-/// The first word of a line, empty where there is none, and what follows it.
-pub(crate) fn next_word(line: &[u8]) -> Cut<'_>
-    ensures front { result.front.now ≡ first_word line.now }
-    ensures rest { result.rest.now ≡ after_word line.now }
-{
-    let (_, words) = line.split_at(span(line, Stretch::Blank));
-    let (front, rest) = words.split_at(span(words, Stretch::Word));
-    Cut { front, rest }
+    ghost next_gives = { λ s word t. TakesWord s.0.now word t.0.now };
+
+    fn next(&mut self) -> Option<&'a [u8]> {
+        let line = self.0;
+        let start = line.iter().position(|b| !is_blank(*b))?;
+        let (_, words) = line.split_at(start);
+        let end = words.iter().position(|b| is_blank(*b));
+        let (word, rest) = words.split_at(end.unwrap_or(words.len()));
+        self.0 = rest;
+        Some(word)
+    }
 }
 
 fn without_return(line: &[u8]) -> &[u8]
     ensures { result.now ≡ without_return line.now }
 {
-    let length = line.len();
-    if length == 0 {
-        return line;
-    }
-    if line[length - 1] == b'\r' {
-        &line[0..length - 1]
-    } else {
-        line
+    match line {
+        [line @ .., b'\r'] => line,
+        _ => line,
     }
 }
 
-/// The first line of a text, without its end (LF, or CR and LF), and the lines after it.
-pub(crate) fn next_line(text: &[u8]) -> Cut<'_>
-    ensures front { result.front.now ≡ first_line text.now }
-    ensures rest { result.rest.now ≡ after_line text.now }
-{
-    let length = span(text, Stretch::Line);
-    let (line, end) = text.split_at(length);
-    if length == text.len() {
-        return Cut {
-            front: text,
-            rest: end,
-        };
+impl<'a> Lines<'a> {
+    /// The lines of a text.
+    pub(crate) fn new(text: &'a [u8]) -> Lines<'a> {
+        Lines(text)
     }
-    let (_, rest) = text.split_at(length + 1);
-    Cut {
-        front: without_return(line),
-        rest,
+}
+
+impl<'a> Iterator for Lines<'a> {
+    type Item = &'a [u8];
+
+    ghost next_gives = { λ s line t. TakesLine s.0.now line t.0.now };
+
+    ghost remaining = { λ s. at_most (length s.0.now) };
+
+    fn next(&mut self) -> Option<&'a [u8]> {
+        let text = self.0;
+        if text.is_empty() {
+            return None;
+        }
+        let Some(end) = text.iter().position(|b| *b == b'\n') else {
+            self.0 = b"";
+            return Some(text);
+        };
+        self.0 = &text[end + 1..];
+        Some(without_return(&text[..end]))
     }
 }
 
@@ -99,17 +88,15 @@ pub(crate) fn number(word: &[u8]) -> Option<u32>
     if word.is_empty() {
         return None;
     }
-    let mut value = 0u64;
+    let mut value = 0u32;
+    // `parse` takes longer: it wants text, and a sign has to be kept from it.
     for b in word {
         if !b.is_ascii_digit() {
             return None;
         }
-        value = value * 10 + (*b - b'0') as u64;
-        if value > 4_294_967_295 {
-            return None;
-        }
+        value = value.checked_mul(10)?.checked_add(u32::from(*b - b'0'))?;
     }
-    Some(value as u32)
+    Some(value)
 }
 
 fn hex_value(b: u8) -> Option<u8>
@@ -126,10 +113,7 @@ fn hex_value(b: u8) -> Option<u8>
 fn byte_pair(high: u8, low: u8) -> Option<u8>
     ensures { result ≡ byte_pair high low }
 {
-    match (hex_value(high), hex_value(low)) {
-        (Some(h), Some(l)) => Some(h * 16 + l),
-        _ => None,
-    }
+    Some(hex_value(high)? * 16 + hex_value(low)?)
 }
 
 /// The bytes that a word writes as pairs of hexadecimal digits.
@@ -138,17 +122,12 @@ pub(crate) fn bytes_in(heap: Global, word: &[u8]) -> Result<Option<Vec<u8>>, All
 {
     let mut bytes = Vec::with_capacity(heap, word.len() / 2)?;
     let mut rest = word;
-    while rest.len() >= 2 {
-        let Some(byte) = byte_pair(rest[0], rest[1]) else {
+    while let [high, low, after @ ..] = rest {
+        let Some(byte) = byte_pair(*high, *low) else {
             return Ok(None);
         };
         bytes.push(byte)?;
-        let (_, more) = rest.split_at(2);
-        rest = more;
+        rest = after;
     }
-    if rest.is_empty() {
-        Ok(Some(bytes))
-    } else {
-        Ok(None)
-    }
+    Ok(rest.is_empty().then_some(bytes))
 }

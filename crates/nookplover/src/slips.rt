@@ -1,102 +1,102 @@
 //! The slips that are open, each at the place of its day.
 ghost use Rattle.std.specs.Prelude.{◌≡◌};
 
+use crate::answer::Denial;
 use book::Slip;
 use std::alloc::{AllocError, Global};
-use std::mem;
+use std::{fmt, mem};
 
 /// Days are numbered 1 to 60,000; place 0 stays empty.
 const PLACES: usize = 60_001;
 
-/// What stands at the place of a day. A slip has to be closed, so this cannot be let go.
-pub(crate) enum Place {
-    Empty,
+/// A slip that is open, in either stage. It has to be closed, so it cannot be let go.
+pub(crate) enum Open {
     Estimate(Slip<1>),
     Reconciliation(Slip<2>),
 }
 
 /// The open slips. It is ended by `close_all`.
+// A map would want memory whenever a day is opened; here no call can want for it.
 pub(crate) struct Slips {
-    places: Vec<Place>,
+    places: Vec<Option<Open>>,
 }
 
-impl Place {
-    // Whatever is there is ended in the way that its stage asks for.
-    fn end(self) {
-        match self {
-            Place::Empty => {}
-            Place::Estimate(slip) => {
-                let _ = slip.turn().close();
-            }
-            Place::Reconciliation(slip) => {
-                let _ = slip.close();
-            }
+// Whatever is open is ended in the way that its stage asks for.
+fn end(open: Option<Open>) {
+    match open {
+        None => {}
+        Some(Open::Estimate(slip)) => {
+            let _ = slip.turn().close();
         }
+        Some(Open::Reconciliation(slip)) => {
+            let _ = slip.close();
+        }
+    }
+}
+
+impl fmt::Display for Open {
+    fn fmt<W: fmt::Write>(&self, f: &mut fmt::Formatter<W>) -> fmt::Result {
+        let (day, stage) = match self {
+            Open::Estimate(slip) => (slip.day(), 1),
+            Open::Reconciliation(slip) => (slip.day(), 2),
+        };
+        write!(f, "open at end {day} {stage}")
     }
 }
 
 impl Slips {
-    /// No slip is open. Memory for every day is got at once, so that no call can want for it.
+    /// No slip is open. Memory for every day is got at once.
     pub(crate) fn new(heap: Global) -> Result<Slips, AllocError> {
         let mut places = Vec::with_capacity(heap, PLACES)?;
+        // What fills a list at once has to be something that can be let go, and a slip is not.
         for _day in 0..PLACES {
-            places.push_reserved(Place::Empty);
+            places.push_reserved(None);
         }
         Ok(Slips { places })
     }
 
-    /// What stands at each day's place, from day 0 on.
-    pub(crate) fn places(&self) -> &[Place] {
+    /// What is open of each day, from day 0 on.
+    pub(crate) fn places(&self) -> &[Option<Open>] {
         self.places.as_slice()
     }
 
-    // Takes what stands at a place, which is empty then.
-    fn take(&mut self, day: u32) -> Place {
-        let at = day as usize;
-        if at < self.places.len() {
-            mem::replace(&mut self.places[at], Place::Empty)
-        } else {
-            Place::Empty
-        }
+    fn take(&mut self, day: u32) -> Option<Open> {
+        self.places.get_mut(day as usize)?.take()
     }
 
-    // Puts a slip at a place.
-    fn put(&mut self, day: u32, place: Place) {
-        let at = day as usize;
-        if at < self.places.len() {
-            mem::replace(&mut self.places[at], place).end();
-        } else {
-            place.end();
-        }
+    fn put(&mut self, day: u32, open: Option<Open>) {
+        end(match self.places.get_mut(day as usize) {
+            Some(place) => mem::replace(place, open),
+            None => open,
+        });
     }
 
     /// Keeps the slip of a day that was opened.
     pub(crate) fn keep(&mut self, slip: Slip<1>) {
-        let day = slip.day();
-        self.put(day, Place::Estimate(slip));
+        self.put(slip.day(), Some(Open::Estimate(slip)));
     }
 
     /// Turns the slip of a day, if one is open in stage 1.
-    pub(crate) fn turn(&mut self, day: u32) -> bool {
+    pub(crate) fn turn(&mut self, day: u32) -> Result<(), Denial> {
         match self.take(day) {
-            Place::Estimate(slip) => {
-                self.put(day, Place::Reconciliation(slip.turn()));
-                true
+            Some(Open::Estimate(slip)) => {
+                self.put(day, Some(Open::Reconciliation(slip.turn())));
+                Ok(())
             }
             other => {
                 self.put(day, other);
-                false
+                Err(Denial::NoSlip)
             }
         }
     }
 
     /// Closes the slip of a day, if one is open in stage 2, and gives what closing it answers.
-    pub(crate) fn close(&mut self, day: u32) -> Option<u32> {
+    pub(crate) fn close(&mut self, day: u32) -> Result<u32, Denial> {
         match self.take(day) {
-            Place::Reconciliation(slip) => Some(slip.close()),
+            Some(Open::Reconciliation(slip)) => Ok(slip.close()),
             other => {
                 self.put(day, other);
-                None
+                Err(Denial::NoSlip)
             }
         }
     }
@@ -105,7 +105,7 @@ impl Slips {
     pub(crate) fn close_all(self) {
         let Slips { mut places } = self;
         while let Some(place) = places.pop() {
-            place.end();
+            end(place);
         }
         places.destroy_empty();
     }

@@ -5,7 +5,8 @@ use Rattle.nookplover.specs.Numerals.{read_on}
 use Rattle.nookplover.proofs.scan.number.Given as goal
 
 abbrev pub invariant-loop-b : goal.invariant-loop-b
-invariant-loop-b l =
-    (all_ascii_digits l.word ≡ all_ascii_digits (drop l.b-index l.word))
-    × (read_on 0 l.word ≡ read_on l.value (drop l.b-index l.word))
-    × (l.value ≤ 4294967295)
+invariant-loop-b l = record {
+  digits : all_ascii_digits l.word ≡ all_ascii_digits (drop l.b-index l.word);
+  read : read_on 0 l.word ≡ read_on l.value (drop l.b-index l.word);
+  small : l.value ≤ 4294967295;
+}

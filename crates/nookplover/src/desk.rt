@@ -1,0 +1,155 @@
+//! The desk, where the calls of a journal are made.
+use crate::answer::{Answer, Denial};
+use crate::call::Call;
+use crate::print::{End, Hex};
+use crate::slips::Slips;
+use archive::Archive;
+use archive::intake::take_in;
+use archive::listing::list;
+use book::{Book, Entry, Roster};
+use std::alloc::{AllocError, Global};
+use std::io;
+use std::io::Write;
+
+/// All that calls are made on: the book, the slips of the days that it opened, a roster, an archive, and memory for
+/// listings. It holds slips, so it cannot be let go: it is ended by `close`.
+pub(crate) struct Desk<'a, 'e, A> {
+    book: Book,
+    slips: Slips,
+    roster: &'a mut Roster<'e>,
+    archive: &'a mut A,
+    listing: &'a mut [u8],
+}
+
+impl<'a, 'e, A: Archive> Desk<'a, 'e, A> {
+    /// A desk with a new book, in which no day was opened.
+    pub(crate) fn new(
+        heap: Global,
+        roster: &'a mut Roster<'e>,
+        archive: &'a mut A,
+        listing: &'a mut [u8],
+    ) -> Result<Desk<'a, 'e, A>, AllocError> {
+        let slips = Slips::new(heap)?;
+        Ok(Desk {
+            book: Book::new(),
+            slips,
+            roster,
+            archive,
+            listing,
+        })
+    }
+
+    /// Ends the desk, and with it every slip that is still open.
+    pub(crate) fn close(self) {
+        let Desk {
+            book: _,
+            slips,
+            roster: _,
+            archive: _,
+            listing: _,
+        } = self;
+        slips.close_all();
+    }
+
+    fn open(&mut self, day: u32, hours: u32) -> Result<Answer, Denial> {
+        let slip = self.book.open(day, hours)?;
+        self.slips.keep(slip);
+        Ok(Answer::Accepted)
+    }
+
+    // The listing is made in memory of so many bytes as the call gives it.
+    fn list(&mut self, day: u32, hour: u32, bytes: Option<u32>) -> Result<Answer, Denial> {
+        let most = self.listing.len();
+        let size = bytes.map_or(most, |size| most.min(size as usize));
+        let memory = &mut self.listing[..size];
+        Ok(Answer::Listed(list(self.archive, day, hour, memory)?))
+    }
+
+    // Makes a call.
+    fn make(&mut self, call: &Call) -> Result<Answer, Denial> {
+        match call {
+            Call::Enrol(
+                Entry {
+                    account,
+                    from_day,
+                    supplier,
+                },
+            ) => {
+                self.roster
+                    .enrol(&self.book, *account, *from_day, *supplier)?;
+                Ok(Answer::Accepted)
+            }
+            Call::Switch(
+                Entry {
+                    account,
+                    from_day,
+                    supplier,
+                },
+            ) => {
+                self.roster
+                    .switch(&self.book, *account, *from_day, *supplier)?;
+                Ok(Answer::Accepted)
+            }
+            Call::Drop { account, from_day } => {
+                self.roster.drop(&self.book, *account, *from_day)?;
+                Ok(Answer::Accepted)
+            }
+            Call::Open { day, hours } => self.open(*day, *hours),
+            Call::Turn { day } => {
+                self.slips.turn(*day)?;
+                Ok(Answer::Accepted)
+            }
+            Call::Close { day } => Ok(Answer::Waiting(self.slips.close(*day)?)),
+            Call::TakeIn(bytes) => Ok(Answer::Taken(take_in(self.archive, bytes.as_slice())?)),
+            Call::List { day, hour, bytes } => self.list(*day, *hour, *bytes),
+            Call::Dump => Ok(Answer::Held(self.archive.count())),
+        }
+    }
+
+    // Prints what an answer is about: the listing, or the archive's rows.
+    fn print_after<W: Write>(&self, answer: Answer, output: &mut W) -> io::Result<()> {
+        match answer {
+            Answer::Listed(length) => {
+                output.write_all(&self.listing[..length.min(self.listing.len())])
+            }
+            Answer::Held(rows) => {
+                for i in 0..rows {
+                    if let Some(row) = self.archive.row(i) {
+                        writeln!(output, "{}", Hex(&row.to_bytes()))?;
+                    }
+                }
+                Ok(())
+            }
+            _ => Ok(()),
+        }
+    }
+
+    // Prints what is open at the end, and what archive and roster hold. Days rise as they are opened, so the order of
+    // the days is the order of opening.
+    fn print_end<W: Write>(&self, output: &mut W) -> io::Result<()> {
+        for open in self.slips.places().iter().flatten() {
+            writeln!(output, "{open}")?;
+        }
+        let end = End {
+            rows: self.archive.count(),
+            free: self.archive.free_places(),
+            entries: self.roster.count(),
+        };
+        write!(output, "{end}")
+    }
+
+    /// Makes every call and prints what it answered, and at the end what is then open, and what archive and roster hold.
+    pub(crate) fn run<W: Write>(&mut self, calls: &[Call], output: &mut W) -> io::Result<()> {
+        for call in calls {
+            match self.make(call) {
+                Ok(answer) => {
+                    write!(output, "{call} -> {answer}")?;
+                    self.print_after(answer, output)?;
+                }
+                Err(denial) => write!(output, "{call} -> {denial}")?,
+            }
+        }
+        self.print_end(output)?;
+        output.flush()
+    }
+}
