@@ -1,5 +1,5 @@
 -- The rows that are lacking bring the sums to what is wanted.
-use Rattle.std.proofs.Common.{◌≡◌, ℕ, zero, suc, ◌+◌, ◌<◌, ◌≤◌, Bool, true, false, ◌&&◌, eqb, List, [], ◌∷◌, ◌++◌, ℤ, pos, ◌+ℤ◌, ◌-ℤ◌, sym, refl, ap, ◌∙◌, ⊎_elim, add-one, arith}
+use Rattle.std.proofs.Common.{◌≡◌, ℕ, zero, suc, ◌+◌, ◌<◌, ◌≤◌, Bool, true, false, ◌&&◌, eqb, List, ◌++◌, ℤ, pos, ◌+ℤ◌, ◌-ℤ◌, sym, refl, ap, ◌∙◌, ⊎_elim, add-one, arith}
 use lib.IntN.{+ℤ_idr}
 use Rattle.std.proofs.lemmas.List.{append-nil, append_assoc}
 use Rattle.std.proofs.lemmas.Int.{ints}
@@ -10,13 +10,9 @@ use Rattle.rows.specs.declared.Kind.TheVariants.{Energy, Peak}
 use Rattle.archive.specs.declared.adjusting.Slot.{Slot}
 use Rattle.archive.specs.Sums.{same_kind, in_hour, portion, sum_of}
 use Rattle.archive.specs.Adjusting.{row_in, row_for, rows_for, wanted_by, due_to, AdjustingLaw}
-use Rattle.archive.proofs.Totals.{total_push}
+use Rattle.archive.proofs.Summing.{sum_of_push}
 use Rattle.archive.proofs.Portions.{portion_in, portion_out, portion_other}
 use Rattle.archive.proofs.Dues.{cases_zero, row_for-none, row_for_one, rows_for-none, rows_for_more}
-
-pub sum_of_push : (k : Kind) (d h s : ℕ) (rs : List Row) (r : Row) → sum_of k d h s (rs ++ r ∷ []) ≡ sum_of k d h s rs +ℤ portion k d h s r
-unfolding sum_of
-sum_of_push k d h s rs r = total_push (portion k d h s) rs r
 
 same_kind_lem : (k : Kind) → same_kind k k ≡ true
 same_kind_lem Energy = refl

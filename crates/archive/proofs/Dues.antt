@@ -1,13 +1,14 @@
 -- The rows of what suppliers 1 to n are due.
-use Rattle.std.proofs.Common.{◌≡◌, ℕ, zero, suc, ◌+◌, ◌-◌, ◌<◌, ◌≤◌, Bool, true, false, ◌&&◌, leb, ◌⊎◌, List, [], ◌∷◌, ◌++◌, length, get_or, set, ℤ, pos, negsuc, sym, refl, ap, ◌∙◌, subst, inl, inr, ⊎_elim, add-one, arith, w64, SFits, to_z, of_z}
+use Rattle.std.proofs.Common.{◌≡◌, ℕ, zero, suc, ◌+◌, ◌-◌, ◌<◌, ◌≤◌, Bool, true, false, ◌&&◌, leb, ◌⊎◌, List, [], ◌∷◌, ◌++◌, length, get_or, set, take, drop, not, count_by, ℤ, pos, negsuc, ◌-ℤ◌, sym, refl, ap, ◌∙◌, subst, inl, inr, ⊎_elim, add-one, arith, w64, SFits, to_z, of_z}
 use Rattle.std.specs.List.{AllByRecursion}
 use Rattle.std.proofs.ByRecursion.{All-append}
-use Rattle.std.proofs.lemmas.List.{append-nil, length-append, length_push, get_or-set_same, get_or-set_other}
+use Rattle.std.proofs.lemmas.List.{append-nil, length-append, length_push, length-drop, length-set, drop-drop, take_all, get_or-drop, get_or-set_same, get_or-set_other}
+use Rattle.std.proofs.lemmas.List.Sums.{count_by_more_no, count_by_more_yes}
 use Rattle.std.proofs.lemmas.Int.{to_z-of_z, ints}
 use Rattle.std.proofs.lemmas.Bool.{and_parts, and_from, and_left, and_right, cases_eq, cond_both, cond-false, le-leb, ne_eqb}
 use Rattle.rows.specs.Lawful.{between, bookable, timely, lawful, Lawful}
 use Rattle.archive.specs.declared.adjusting.Slot.{Slot}
-use Rattle.archive.specs.Adjusting.{lawful_slot, is_zero, in_range, row_in, row_for, rows_for, all_in_range}
+use Rattle.archive.specs.Adjusting.{lawful_slot, is_zero, in_range, row_in, row_for, rows_for, all_in_range, lacks}
 
 pub cases_zero : (z : ℤ) → (z ≡ pos 0) ⊎ (z ≡ pos 0 → ⊥)
 cases_zero (pos zero) = inl refl
@@ -114,7 +115,7 @@ all_in_range_same f g (suc n) e =
     ap (λ z. all_in_range f n && in_range z) (e (suc n) (omega arith) (omega arith)) ∙ ap (λ b. b && in_range (g (suc n))) (all_in_range_same f g n (λ s l m. e s l (omega arith)))
 
 -- one more of the first places of a list is due
-pub dues_more : (all : List ℤ) (due : ℕ → ℤ) (i : ℕ) (z : ℤ) → i < length all → z ≡ due (i + 1) → ((s : ℕ) → 1 ≤ s → s ≤ i → get_or all (s - 1) (pos 0) ≡ due s) → (s : ℕ) → 1 ≤ s → s ≤ i + 1 → get_or (set all i z) (s - 1) (pos 0) ≡ due s
+dues_more : (all : List ℤ) (due : ℕ → ℤ) (i : ℕ) (z : ℤ) → i < length all → z ≡ due (i + 1) → ((s : ℕ) → 1 ≤ s → s ≤ i → get_or all (s - 1) (pos 0) ≡ due s) → (s : ℕ) → 1 ≤ s → s ≤ i + 1 → get_or (set all i z) (s - 1) (pos 0) ≡ due s
 dues_more all due i z l e below s low high =
     ⊎_elim
     (λ q. let at : s - 1 ≡ i = omega arith in ap (λ n. get_or (set all i z) n (pos 0)) at ∙ get_or-set_same all i z (pos 0) l ∙ e ∙ ap due (sym q))
@@ -131,3 +132,72 @@ rows_for-lawful slot due good small (suc n) l =
     (λ e. subst (AllByRecursion Lawful) (sym (row_for-none slot (suc n) (due (suc n)) e)) tt)
     (λ ne. subst (AllByRecursion Lawful) (sym (row_for_one slot (suc n) (due (suc n)) ne)) (lawful_due slot (suc n) (due (suc n)) good (omega arith) (omega arith) (all_in_range_at due (suc n) 32 (omega arith) (omega arith) small) ne, tt))
     (cases_zero (due (suc n))))
+
+-- the first of what is left of a list, and what is left after it
+module _ {X : Type 0} (xs : List X) (i : ℕ) (x : X) (rest : List X) (left : drop i xs ≡ x ∷ rest) where
+  first_left : (d : X) → get_or xs i d ≡ x
+  first_left d = (let z : i ≡ i + 0 = omega arith in ap (λ k. get_or xs k d) z) ∙ sym (get_or-drop i xs 0 d) ∙ ap (λ t. get_or t 0 d) left
+
+  rest_left : drop (i + 1) xs ≡ rest
+  rest_left = sym (drop-drop 1 i xs) ∙ ap (drop 1) left
+
+-- of the amounts wanted and of the sums, those from the i-th on are left, and what the suppliers before lack is found
+pub record Lacking (wanted : List ℕ) (sums all : List ℤ) (i : ℕ) (ws : List ℕ) (ss : List ℤ) : Type 0 where
+  pub long : length all ≡ 32
+  pub few : i ≤ 32
+  pub wants : drop i wanted ≡ ws
+  pub haves : drop i sums ≡ ss
+  pub small : all_in_range (lacks wanted sums) i ≡ true
+  pub each : (s : ℕ) → 1 ≤ s → s ≤ i → get_or all (s - 1) (pos 0) ≡ lacks wanted sums s
+
+pub lacking_none : (wanted : List ℕ) (sums all : List ℤ) → length all ≡ 32 → Lacking wanted sums all 0 wanted sums
+unfolding all_in_range
+lacking_none wanted sums all l =
+    record { long = l; few = omega arith; wants = refl; haves = refl; small = refl; each = λ s a b. absurd (omega arith) }
+
+module _ (wanted : List ℕ) (sums all : List ℤ) (i w : ℕ) (z : ℤ) (ws : List ℕ) (ss : List ℤ) (p : Lacking wanted sums all i (w ∷ ws) (z ∷ ss)) where
+  lacks_here : pos w -ℤ z ≡ lacks wanted sums (i + 1)
+  lacks_here =
+      let at : i ≡ i + 1 - 1 = omega arith in
+      sym (ap (λ n. pos n -ℤ get_or sums i (pos 0)) (first_left wanted i w ws p.wants 0) ∙ ap (λ n. pos w -ℤ n) (first_left sums i z ss p.haves (pos 0)))
+      ∙ ap (λ k. pos (get_or wanted k 0) -ℤ get_or sums k (pos 0)) at
+
+  pub lacking_fails : length wanted ≡ 32 → in_range (pos w -ℤ z) ≡ false → all_in_range (lacks wanted sums) 32 ≡ false
+  lacking_fails l e =
+      all_in_range_fails (lacks wanted sums) (i + 1) 32 (omega arith) (omega (arith, ap length p.wants, length-drop i wanted)) (ap in_range (sym lacks_here) ∙ e)
+
+  pub lacking_more : length wanted ≡ 32 → (x : ℤ) → x ≡ pos w -ℤ z → in_range (pos w -ℤ z) ≡ true → Lacking wanted sums (set all i x) (i + 1) ws ss
+  lacking_more l x e r = record {
+    long = length-set all i x ∙ p.long;
+    few = omega (arith, l, ap length p.wants, length-drop i wanted);
+    wants = rest_left wanted i w ws p.wants;
+    haves = rest_left sums i z ss p.haves;
+    small = all_in_range_more (lacks wanted sums) i (ap in_range (sym lacks_here) ∙ r) p.small;
+    each = dues_more all (lacks wanted sums) i x (omega (arith, p.long, l, ap length p.wants, length-drop i wanted)) (e ∙ lacks_here) p.each;
+  }
+
+pub lacking_all : (wanted : List ℕ) (sums all : List ℤ) (i : ℕ) (ws : List ℕ) (ss : List ℤ) → Lacking wanted sums all i ws ss → length wanted ≡ 32 → length sums ≡ 32 → (length ws ≡ 0) ⊎ (length ss ≡ 0) → (all_in_range (lacks wanted sums) 32 ≡ true) × ((s : ℕ) → 1 ≤ s → s ≤ 32 → get_or all (s - 1) (pos 0) ≡ lacks wanted sums s)
+lacking_all wanted sums all i ws ss p lw ls none =
+    let last : i ≡ 32 = ⊎_elim
+    (λ e. omega (arith, p.few, lw, e, ap length p.wants, length-drop i wanted))
+    (λ e. omega (arith, p.few, ls, e, ap length p.haves, length-drop i sums))
+    none in
+    (ap (all_in_range (lacks wanted sums)) (sym last) ∙ p.small, λ s l m. p.each s l (omega arith))
+
+-- as many rows are due as amounts are not 0
+module _ (slot : Slot) (zs : List ℤ) where
+  count_first : (n : ℕ) → n ≤ length zs → length (rows_for slot (λ s. get_or zs (s - 1) (pos 0)) n) ≡ count_by (λ z. not (is_zero z)) (take n zs)
+  count_first zero l = ap length (rows_for-none slot (λ s. get_or zs (s - 1) (pos 0)))
+  count_first (suc n) l =
+      let due : ℕ → ℤ = λ s. get_or zs (s - 1) (pos 0) in
+      let here : due (n + 1) ≡ get_or zs n (pos 0) = (let at : n + 1 - 1 ≡ n = omega arith in ap (λ k. get_or zs k (pos 0)) at) in
+      ap (λ k. length (rows_for slot due k)) (sym (add-one n))
+      ∙ ⊎_elim
+      (λ e. length_more_none slot due n (here ∙ e) ∙ count_first n (omega arith) ∙ sym (count_by_more_no (λ z. not (is_zero z)) zs n (pos 0) (omega arith) (ap (λ z. not (is_zero z)) e)))
+      (λ ne. length_more_one slot due n (λ e. ne (sym here ∙ e)) ∙ ap (λ k. k + 1) (count_first n (omega arith)) ∙ sym (count_by_more_yes (λ z. not (is_zero z)) zs n (pos 0) (omega arith) (ap not (not_zero (get_or zs n (pos 0)) ne))))
+      (cases_zero (get_or zs n (pos 0)))
+      ∙ ap (λ k. count_by (λ z. not (is_zero z)) (take k zs)) (add-one n)
+
+  pub rows_for_count : length zs ≡ 32 → count_by (λ z. not (is_zero z)) zs ≡ length (rows_for slot (λ s. get_or zs (s - 1) (pos 0)) 32)
+  rows_for_count l =
+      sym (count_first 32 (omega (arith, l)) ∙ ap (count_by (λ z. not (is_zero z))) (take_all 32 zs (omega (arith, l))))

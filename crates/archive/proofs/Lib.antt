@@ -5,7 +5,6 @@ pub mod Totals
 pub mod Portions
 pub mod Summing
 pub mod Zoning
-pub mod Growing
 pub mod Lines
 pub mod Listed
 pub mod Reading

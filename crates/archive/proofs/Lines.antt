@@ -3,18 +3,15 @@ use Rattle.std.proofs.Common.{◌≡◌, ℕ, zero, suc, ◌+◌, ◌<◌, ◌�
 use Rattle.std.specs.Fmt.{signed_decimal}
 use Rattle.std.proofs.lemmas.Fmt.{length-decimal-le, length_signed_le}
 use Rattle.std.proofs.lemmas.List.{length-append, append_assoc, append-nil, take_more, length-take-le}
-use Rattle.archive.specs.Listing.{supplier_line, supplier_lines, zone_line}
+use Rattle.archive.specs.Listing.{supplier_line, supplier_lines}
 
 pub line_is : (s : ℕ) (z : ℤ) → (of_z w64 z ≡ 0 → ⊥) → supplier_line s z ≡ decimal s ++ (32 ∷ (signed_decimal z ++ 10 ∷ []))
 line_is s (pos zero) e = absurd (e refl)
 line_is s (pos (suc n)) e = refl
 line_is s (negsuc n) e = refl
 
-pub length_line : (s : ℕ) (z : ℤ) → length (decimal s ++ (32 ∷ (signed_decimal z ++ 10 ∷ []))) ≡ length (decimal s) + 1 + length (signed_decimal z) + 1
+length_line : (s : ℕ) (z : ℤ) → length (decimal s ++ (32 ∷ (signed_decimal z ++ 10 ∷ []))) ≡ length (decimal s) + 1 + length (signed_decimal z) + 1
 length_line s z = simp length-append (omega arith)
-
-pub length-zone : (z : ℤ) → length (zone_line z) ≡ 5 + length (signed_decimal z) + 1
-length-zone z = simp length-append (omega arith)
 
 pub length_signed_small : (z : ℤ) → nat_abs z ≤ 3000000000000000 → length (signed_decimal z) ≤ 17
 length_signed_small (pos n) h = length_signed_le 16 (pos n) (omega arith) (omega arith)

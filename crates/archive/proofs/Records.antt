@@ -1,8 +1,6 @@
 -- Rows in a table.
-use Rattle.std.proofs.Common.{◌≡◌, ℕ, ◌<◌, ◌≤◌, true, List, [], ◌∷◌, ◌++◌, length, get_or, take, Some, sym, refl, ap, ◌∙◌, arith}
-use Rattle.std.specs.List.{slice_get, AllByRecursion}
-use Rattle.std.proofs.lemmas.List.{get_or-take, length-take-le}
-use Rattle.std.proofs.lemmas.Option.{slice_get-get_or}
+use Rattle.std.proofs.Common.{◌≡◌, true, List, [], ◌∷◌, ◌++◌, refl}
+use Rattle.std.specs.List.{AllByRecursion}
 use Rattle.std.proofs.lemmas.Bool.{and_parts, and_from}
 use Rattle.rows.specs.declared.Row.{Row}
 use Rattle.rows.specs.Lawful.{lawful, Lawful}
@@ -17,7 +15,3 @@ test_push [] r e l = and_from (lawful r) true l refl
 test_push (x ∷ xs) r e l =
     let p = and_parts (lawful x) (all_lawful xs) e in
     and_from (lawful x) (all_lawful (xs ++ r ∷ [])) p.0 (test_push xs r p.1 l)
-
-pub record_at : (rs : List Row) (n i : ℕ) (d : Row) → i < n → n ≤ length rs → Some (get_or rs i d) ≡ slice_get (take n rs) i
-record_at rs n i d l f =
-    sym (slice_get-get_or (take n rs) i d (omega (arith, length-take-le n rs f)) ∙ ap Some (get_or-take n rs i d l))

@@ -1,11 +1,10 @@
 -- Totals over a list, and sums over 1 to n.
-use Rattle.std.proofs.Common.{◌≡◌, ℕ, zero, suc, ◌+◌, ◌*◌, ◌<◌, ◌≤◌, List, [], ◌∷◌, ◌++◌, map, length, get_or, take, ℤ, pos, ◌+ℤ◌, neg_ℤ, ◌≤ℤ◌, fold, sum, sym, refl, ap, ◌∙◌, ⊎_elim, add-mul, add-one, arith}
+use Rattle.std.proofs.Common.{◌≡◌, ℕ, zero, suc, ◌+◌, ◌*◌, ◌≤◌, List, [], ◌∷◌, ◌++◌, map, length, ℤ, pos, ◌+ℤ◌, neg_ℤ, ◌≤ℤ◌, fold, sum, sym, refl, ap, ◌∙◌, ⊎_elim, add-one, suc-mul, arith}
 use lib.IntN.{+ℤ_idr, +ℤ_idl, +ℤ_assoc}
 use Rattle.std.specs.List.{range_with_len, AllByRecursion}
 use Rattle.std.proofs.lemmas.List.FromFn.{map-range_with_len_more}
-use Rattle.std.proofs.ByRecursion.{All-get_or}
 use Rattle.std.proofs.lemmas.Int.{ints}
-use Rattle.std.proofs.lemmas.List.Sums.{fold_push, fold_more, sum_by_push}
+use Rattle.std.proofs.lemmas.List.Sums.{fold_push, sum_by_push}
 use Rattle.std.proofs.lemmas.Bool.{cases_eq}
 use Rattle.archive.specs.Sums.{total, up_to}
 
@@ -13,22 +12,12 @@ use Rattle.archive.specs.Sums.{total, up_to}
 abbrev pub Within : ℕ → ℤ → Type 0
 Within n z = (neg_ℤ (pos n) ≤ℤ z) × (z ≤ℤ pos n)
 
-pub within_more : (m n : ℕ) (a b : ℤ) → Within (n * m) a → Within m b → Within ((n + 1) * m) (a +ℤ b)
-within_more m n a b p q = omega (arith, ints, add-mul n 1 m)
+within_more : (m n : ℕ) (a b : ℤ) → Within m a → Within (n * m) b → Within (suc n * m) (a +ℤ b)
+within_more m n a b p q = omega (arith, ints, suc-mul n m)
 
 module _ {X : Type 0} where
   pub total_push : (f : X → ℤ) (xs : List X) (x : X) → total f (xs ++ x ∷ []) ≡ total f xs +ℤ f x
   total_push f xs x = fold_push (λ a y. a +ℤ f y) (pos 0) xs x
-
-  pub total_more : (f : X → ℤ) (xs : List X) (i : ℕ) (d : X) → i < length xs → total f (take (i + 1) xs) ≡ total f (take i xs) +ℤ f (get_or xs i d)
-  total_more f xs i d l = fold_more (λ a y. a +ℤ f y) (pos 0) xs i d l
-
-  -- of the first i elements, where each gives at most m either way
-  pub total_within : (P : X → Type 0) (f : X → ℤ) (m : ℕ) (d : X) → ((x : X) → P x → Within m (f x)) → (xs : List X) → AllByRecursion P xs → (i : ℕ) → i ≤ length xs → Within (i * m) (total f (take i xs))
-  total_within P f m d each xs all zero l = omega (arith, ints)
-  total_within P f m d each xs all (suc i) l =
-      let lt : i < length xs = omega arith in
-      rw (← add-one i, total_more f xs i d lt) (within_more m i _ _ (total_within P f m d each xs all i (omega arith)) (each (get_or xs i d) (All-get_or P xs i d lt all)))
 
   total_from : (f : X → ℤ) (a : ℤ) (xs : List X) → fold (λ b x. b +ℤ f x) a xs ≡ a +ℤ total f xs
   total_from f a [] = sym (+ℤ_idr a)
@@ -39,6 +28,12 @@ module _ {X : Type 0} where
 
   pub total_cons : (f : X → ℤ) (x : X) (xs : List X) → total f (x ∷ xs) ≡ f x +ℤ total f xs
   total_cons f x xs = total_from f (pos 0 +ℤ f x) xs ∙ ap (λ z. z +ℤ total f xs) (+ℤ_idl (f x))
+
+  -- where each element gives at most m either way
+  pub total_within : (P : X → Type 0) (f : X → ℤ) (m : ℕ) → ((x : X) → P x → Within m (f x)) → (xs : List X) → AllByRecursion P xs → Within (length xs * m) (total f xs)
+  total_within P f m each [] all = omega (arith, ints)
+  total_within P f m each (x ∷ xs) all =
+      rw (total_cons f x xs) (within_more m (length xs) (f x) (total f xs) (each x all.0) (total_within P f m each xs all.1))
 
   pub total_same : (P : X → Type 0) (f g : X → ℤ) → ((x : X) → P x → f x ≡ g x) → (xs : List X) → AllByRecursion P xs → total f xs ≡ total g xs
   total_same P f g e [] all = refl

@@ -1,5 +1,5 @@
 -- The listing of an hour: its text, by digits, and what the call answers and writes.
-use Rattle.std.specs.Prelude.{◌≡◌, ℕ, zero, suc, ◌+◌, Bool, cond, ◌&&◌, List, [], ◌∷◌, ◌++◌, length, take, drop, ℤ, pos, negsuc, Ok, Err, codes, decimal, Result, ◌==◌, nat_le}
+use Rattle.std.specs.Prelude.{ℕ, zero, suc, ◌+◌, Bool, cond, ◌&&◌, List, [], ◌∷◌, ◌++◌, length, drop, ℤ, pos, negsuc, Ok, Err, codes, decimal, Result, ◌==◌, nat_le}
 use Rattle.std.specs.Fmt.{signed_decimal}
 use Rattle.refusals.specs.declared.Refusal.{Refusal}
 use Rattle.refusals.specs.declared.Cause.TheVariants.{OutOfRange, TextTooLong}
@@ -55,8 +55,3 @@ listing day hour rs size = cond (listable day hour) (fitting (hour_text day hour
 -- the memory once the listing has answered
 abbrev pub listed : ℕ → ℕ → List Row → List ℕ → List ℕ
 listed day hour rs out = kept (listing day hour rs (length out)) (overwritten (hour_text day hour rs) out) out
-
--- the first n of the bytes b are a text, and once more is written at its end the first n' of b' are
-pub record Grown (b : List ℕ) (n : ℕ) (b' : List ℕ) (n' : ℕ) (more : List ℕ) : Type 0 where
-  pub text : take n' b' ≡ take n b ++ more
-  pub len : n' ≡ n + length more

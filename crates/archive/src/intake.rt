@@ -7,6 +7,7 @@ use crate::Archive;
 use refusals::{Cause, Layer, Refusal};
 use rows::{Fault, Row};
 
+// No `From`: both types are of crates below, where `rows` sees no refusals and they see no rows.
 fn refused(fault: Fault, offset: usize) -> Refusal
     ensures { result ≡ faulty fault offset }
 {
@@ -15,23 +16,15 @@ fn refused(fault: Fault, offset: usize) -> Refusal
         Fault::Mark => Cause::UnknownMark,
         Fault::Field => Cause::UnlawfulRow,
     };
-    Refusal {
-        cause,
-        layer: Layer::Archive,
-        place: offset,
-    }
+    Refusal::new(cause, Layer::Archive).at(offset)
 }
 
 // Every row of the bytes can be read, or the first that cannot is answered.
 fn check_rows(bytes: &[u8]) -> Result<(), Refusal>
     ensures { result ≡ all_read (length bytes.now / 15) 0 bytes.now }
 {
-    let mut rest = bytes;
-    for i in 0..bytes.len() / 15 {
-        match Row::read(rest) {
-            Ok(read) => rest = read.rest,
-            Err(fault) => return Err(refused(fault, i * 15)),
-        }
+    for (i, row) in bytes.chunks_exact(15).enumerate() {
+        Row::read(row).map_err(|fault| refused(fault, i * 15))?;
     }
     Ok(())
 }
@@ -44,13 +37,11 @@ fn append_rows<A: Archive>(archive: &mut A, bytes: &[u8])
     ensures memory { A.memory archive.new ≡ entered A.Archive.stamped (A.memory archive.old) (length (A.meaning archive.old).rows) (rows_in (length bytes.now / 15) bytes.now) }
     ensures lent { A.lent archive.new ≡ A.lent archive.old }
 {
-    let mut rest = bytes;
-    for _i in 0..bytes.len() / 15 {
-        let Ok(read) = Row::read(rest) else {
+    for row in bytes.chunks_exact(15) {
+        let Ok(read) = Row::read(row) else {
             return;
         };
         let _ = archive.append(read.row);
-        rest = read.rest;
     }
 }
 
@@ -64,20 +55,12 @@ pub fn take_in<A: Archive>(archive: &mut A, bytes: &[u8]) -> Result<usize, Refus
     ensures again { TakenAgain }
 {
     if bytes.len() % 15 != 0 {
-        return Err(Refusal {
-            cause: Cause::PartialRow,
-            layer: Layer::Archive,
-            place: 0,
-        });
+        return Err(Refusal::new(Cause::PartialRow, Layer::Archive));
     }
     check_rows(bytes)?;
     let rows = bytes.len() / 15;
     if rows > archive.free_places() {
-        return Err(Refusal {
-            cause: Cause::ArchiveFull,
-            layer: Layer::Archive,
-            place: 0,
-        });
+        return Err(Refusal::new(Cause::ArchiveFull, Layer::Archive));
     }
     append_rows(archive, bytes);
     Ok(rows)

@@ -1,18 +1,20 @@
 //! The archive: rows that are added and never rewritten, in any memory, and what is read off them.
 #![tactic(auto)]
 
-ghost use Rattle.std.specs.Prelude.{◌≡◌, ℕ, ◌+◌, ◌≤◌, List, length};
+ghost use Rattle.std.specs.Prelude.{◌≡◌, ℕ, ◌+◌, ◌≤◌, List, [], length};
 ghost use Rattle.std.specs.List.{slice_get, AllByRecursion};
 ghost use Rattle.rows.specs.declared.Row.{Row as RowT};
 ghost use Rattle.rows.specs.Lawful.{Lawful};
-ghost use Rattle.archive.specs.Contents.{Contents, appending, appended, kept};
+ghost use Rattle.archive.specs.Contents.{Contents, contents, appending, appended, kept};
 
-use refusals::Refusal;
+use iter::Rows;
+use refusals::{Cause, Layer, Refusal};
 use rows::Row;
 
 pub mod adjusting;
 pub mod bytes;
 pub mod intake;
+pub mod iter;
 pub mod listing;
 pub mod sums;
 pub mod table;
@@ -50,4 +52,28 @@ pub trait Archive {
     /// The row at a position from 0; none from the count on.
     fn row(&self, position: usize) -> Option<Row>
         ensures { result ≡ slice_get (meaning self.now).rows position };
+
+    /// The rows, first to last. What `count` says of them all holds here too.
+    final fn rows(&self) -> Rows<'_, Self>
+    where
+        Self: Sized,
+        ensures rows { result ≡ (meaning self.now).rows }
+        ensures lawful { AllByRecursion Lawful (meaning self.now).rows }
+        ensures few { length (meaning self.now).rows + (meaning self.now).free ≤ 1000000 }
+    {
+        Rows::of(self)
+    }
+}
+
+// What every archive refuses, where so many places are free.
+fn admit(row: Row, free: usize) -> Result<(), Refusal>
+    ensures { result ≡ appending (contents [] free) row }
+{
+    if !row.is_lawful() {
+        Err(Refusal::new(Cause::UnlawfulRow, Layer::Archive))
+    } else if free == 0 {
+        Err(Refusal::new(Cause::ArchiveFull, Layer::Archive))
+    } else {
+        Ok(())
+    }
 }

@@ -1,21 +1,20 @@
-ghost use Rattle.std.specs.Prelude.{◌≡◌, ℕ, ◌≤◌, length, take, IfOk};
+ghost use Rattle.std.specs.Prelude.{◌≡◌, ℕ, ◌≤◌, length, IfOk};
 ghost use Rattle.archive.specs.Contents.{kept};
-ghost use Rattle.archive.specs.Sums.{Small};
-ghost use Rattle.archive.specs.Listing.{listable, listed_kind, fitting, overwritten, listing, listed, text_of};
+ghost use Rattle.archive.specs.Listing.{listable, listed_kind, fitting, overwritten, listing, listed};
 
 use crate::Archive;
-use crate::sums::{HourSums, hour_sums};
+use crate::sums::hour_sums;
 use refusals::{Cause, Layer, Refusal};
-use rows::Kind;
+use rows::{Kind, is_day};
 
 mod text;
 
-use text::Text;
+use text::text_of;
 
 fn is_listable(day: u32, hour: u32) -> bool
     ensures { result ≡ listable day hour }
 {
-    1 <= day && day <= 60_000 && hour <= 25
+    is_day(day) && hour <= 25
 }
 
 fn listed_kind(hour: u32) -> Kind
@@ -24,34 +23,16 @@ fn listed_kind(hour: u32) -> Kind
     if hour == 0 { Kind::Peak } else { Kind::Energy }
 }
 
-// The lines of the sums: of each supplier whose sum is not 0, and of the zone.
-fn text_of(sums: &HourSums) -> Text
-    requires { Small sums.now.suppliers sums.now.zone }
-    ensures text { take result.len result.bytes ≡ text_of sums.now.suppliers sums.now.zone }
-    ensures len { result.len ≡ length (text_of sums.now.suppliers sums.now.zone) }
-{
-    let mut text = Text::new();
-    for i in 0..32 {
-        text.supplier(i as u64 + 1, sums.suppliers[i]);
-    }
-    text.zone(sums.zone);
-    text
-}
-
 // Writes the text into the memory's first places, where it fits.
-fn write(text: &[u8], out: &mut [u8]) -> Result<usize, Refusal>
+fn write(text: &str, out: &mut [u8]) -> Result<usize, Refusal>
     ensures answer { result ≡ fitting text.now (length out.old) }
     ensures written { out.new ≡ kept result (overwritten text.now out.old) out.old }
 {
     let length = text.len();
     if length > out.len() {
-        return Err(Refusal {
-            cause: Cause::TextTooLong,
-            layer: Layer::Archive,
-            place: 0,
-        });
+        return Err(Refusal::new(Cause::TextTooLong, Layer::Archive));
     }
-    out[0..length].copy_from_slice(text);
+    out[..length].copy_from_slice(text.as_bytes());
     Ok(length)
 }
 
@@ -64,13 +45,9 @@ pub fn list<A: Archive>(archive: &A, day: u32, hour: u32, out: &mut [u8]) -> Res
     ensures written { out.new ≡ listed day hour (A.meaning archive.now).rows out.old }
 {
     if !is_listable(day, hour) {
-        return Err(Refusal {
-            cause: Cause::OutOfRange,
-            layer: Layer::Archive,
-            place: 0,
-        });
+        return Err(Refusal::new(Cause::OutOfRange, Layer::Archive));
     }
     let sums = hour_sums(archive, listed_kind(hour), day, hour);
     let text = text_of(&sums);
-    write(text.as_slice(), out)
+    write(text.as_str(), out)
 }

@@ -1,5 +1,5 @@
 ghost use Rattle.std.specs.Prelude.{◌≡◌, ◌-◌, ◌≤◌, pos, ◌+ℤ◌, slice_index_or, slice_set, unsigned_abs};
-ghost use Rattle.archive.specs.Sums.{same_kind, in_hour, sums_of, hour_sum, Small, ZoneLaw};
+ghost use Rattle.archive.specs.Sums.{in_hour, sums_of, hour_sum, Small, ZoneLaw};
 
 use crate::Archive;
 use rows::{Kind, Row};
@@ -11,19 +11,10 @@ pub struct HourSums {
     pub zone: i64,
 }
 
-fn same_kind(a: Kind, b: Kind) -> bool
-    ensures { result ≡ same_kind a b }
-{
-    match (a, b) {
-        (Kind::Energy, Kind::Energy) | (Kind::Peak, Kind::Peak) => true,
-        (Kind::Energy, Kind::Peak) | (Kind::Peak, Kind::Energy) => false,
-    }
-}
-
 fn is_in_hour(row: Row, kind: Kind, day: u32, hour: u32) -> bool
     ensures { result ≡ in_hour kind day hour row }
 {
-    same_kind(kind, row.kind) && row.day as u32 == day && row.hour as u32 == hour
+    row.kind == kind && row.day as u32 == day && row.hour as u32 == hour
 }
 
 impl HourSums {
@@ -35,7 +26,7 @@ impl HourSums {
         ensures suppliers { self.new.suppliers ≡ slice_set self.old.suppliers (row.supplier - 1) (slice_index_or self.old.suppliers (row.supplier - 1) (pos 0) +ℤ row.amount) }
         ensures zone { self.new.zone ≡ self.old.zone +ℤ row.amount }
     {
-        self.suppliers[(row.supplier - 1) as usize] += row.amount;
+        self.suppliers[usize::from(row.supplier - 1)] += row.amount;
         self.zone += row.amount;
     }
 }
@@ -52,12 +43,9 @@ pub fn hour_sums<A: Archive>(archive: &A, kind: Kind, day: u32, hour: u32) -> Ho
         suppliers: [0; 32],
         zone: 0,
     };
-    let count = archive.count();
-    for i in 0..count {
-        if let Some(row) = archive.row(i) {
-            if is_in_hour(row, kind, day, hour) {
-                sums.add(row);
-            }
+    for row in archive.rows() {
+        if is_in_hour(row, kind, day, hour) {
+            sums.add(row);
         }
     }
     sums

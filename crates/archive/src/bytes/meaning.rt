@@ -4,8 +4,8 @@ ghost use Rattle.archive.specs.Packed.{rows_in, places, put};
 ghost use Rattle.archive.specs.Held.{byte_contents};
 
 use super::ByteArchive;
-use crate::Archive;
-use refusals::{Cause, Layer, Refusal};
+use crate::{Archive, admit};
+use refusals::Refusal;
 use rows::Row;
 
 impl<'a> ByteArchive<'a> {
@@ -21,8 +21,7 @@ impl<'a> ByteArchive<'a> {
     fn capacity(&self) -> usize
         ensures { result ≡ places (length self.now.memory.now) }
     {
-        let whole = self.memory.len() / 15;
-        if whole < 65_536 { whole } else { 65_536 }
+        (self.memory.len() / 15).min(65_536)
     }
 }
 
@@ -36,25 +35,10 @@ impl<'a> Archive for ByteArchive<'a> {
     ghost stamped = { put };
 
     fn append(&mut self, row: Row) -> Result<(), Refusal> {
-        if !row.is_lawful() {
-            return Err(Refusal {
-                cause: Cause::UnlawfulRow,
-                layer: Layer::Archive,
-                place: 0,
-            });
-        }
-        if self.used >= self.capacity() {
-            return Err(Refusal {
-                cause: Cause::ArchiveFull,
-                layer: Layer::Archive,
-                place: 0,
-            });
-        }
+        admit(row, self.free_places())?;
         let at = self.used * 15;
         let bytes = row.to_bytes();
-        for i in 0..15 {
-            self.memory[at + i] = bytes[i];
-        }
+        self.memory[at..at + 15].copy_from_slice(&bytes);
         self.used += 1;
         Ok(())
     }
@@ -72,9 +56,8 @@ impl<'a> Archive for ByteArchive<'a> {
             return None;
         }
         let at = position * 15;
-        match Row::read(&self.memory[at..at + 15]) {
-            Ok(read) => Some(read.row),
-            Err(_) => None,
-        }
+        Row::read(&self.memory[at..at + 15])
+            .ok()
+            .map(|read| read.row)
     }
 }

@@ -3,8 +3,8 @@ ghost use Rattle.archive.specs.Contents.{Contents, contents};
 ghost use Rattle.archive.specs.Held.{table_contents};
 
 use super::TableArchive;
-use crate::Archive;
-use refusals::{Cause, Layer, Refusal};
+use crate::{Archive, admit};
+use refusals::Refusal;
 use rows::{Kind, Row};
 
 impl TableArchive {
@@ -37,20 +37,7 @@ impl Archive for TableArchive {
     ghost stamped = { λ memory _ _. memory };
 
     fn append(&mut self, row: Row) -> Result<(), Refusal> {
-        if !row.is_lawful() {
-            return Err(Refusal {
-                cause: Cause::UnlawfulRow,
-                layer: Layer::Archive,
-                place: 0,
-            });
-        }
-        if self.used >= 512 {
-            return Err(Refusal {
-                cause: Cause::ArchiveFull,
-                layer: Layer::Archive,
-                place: 0,
-            });
-        }
+        admit(row, self.free_places())?;
         self.records[self.used] = row;
         self.used += 1;
         Ok(())
@@ -65,10 +52,6 @@ impl Archive for TableArchive {
     }
 
     fn row(&self, position: usize) -> Option<Row> {
-        if position < self.used {
-            Some(self.records[position])
-        } else {
-            None
-        }
+        self.records[..self.used].get(position).copied()
     }
 }

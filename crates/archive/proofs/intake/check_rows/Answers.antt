@@ -1,18 +1,38 @@
-use Rattle.std.proofs.Common.{◌+◌, ◌-◌, ◌*◌, ◌/◌, length, Err, sym, ap, ◌∙◌}
-use Rattle.archive.specs.Intake.{all_read}
-use Rattle.archive.proofs.Reading.{rest_more, read_more, read_fault}
+use Rattle.std.proofs.Common.{rules, ◌≡◌, ℕ, ◌+◌, ◌*◌, ◌/◌, ◌++◌, List, length, Ok, Err, Result, sym, ap, ◌∙◌}
+use Rattle.std.proofs.lemmas.Result.{err_from_is_err_and}
+use Rattle.refusals.specs.declared.Refusal.{Refusal}
+use Rattle.rows.specs.declared.Row.{Row}
+use Rattle.rows.specs.declared.Fault.{Fault}
+use Rattle.rows.specs.Format.{reading}
+use Rattle.archive.specs.Intake.{all_read, faulty}
+use Rattle.archive.proofs.Reading.{read_more, read_fault, none_left}
 use Rattle.archive.proofs.intake.check_rows.Goals as goal
-
-pub returns-in-Err : goal.returns-in-Err
-returns-in-Err c =
-    ap Err c.refused.ensures
-    ∙ sym (read_fault (length c.args.bytes.now / 15) c.loop-i.i c.loop-i.rest.now c.loop-i-test.true c.in-Err.fault c.in-Err.ensures.reads)
-    ∙ c.loop-i.invariant.1
 
 pub loop-i-preserved : goal.loop-i-preserved
 loop-i-preserved c =
-    let n = length c.args.bytes.now / 15 in
-    let i = c.loop-i.i in
-    let rest = c.loop-i.rest.now in
-    let q = c.in-Ok.ensures.reads in
-    (q.1 ∙ rest_more c.args.bytes.now rest i c.loop-i.invariant.0, ap (all_read (n - (i + 1)) ((i + 1) * 15)) q.1 ∙ sym (read_more n i rest c.loop-i-test.true c.in-Ok.read.row q.0) ∙ c.loop-i.invariant.1)
+    let left = c.loop-i.i-iterator.iter.rest.now in
+    let rest = c.next.new.self.iter.rest.now in
+    let at = c.loop-i.i-iterator.count * 15 in
+    let t : (r : Row) × (reading c.in-Some.row.now ≡ Ok r) = search rules in
+    let s : left ≡ c.in-Some.row.now ++ rest = search rules in
+    let n : length c.in-Some.row.now ≡ 15 = search rules in
+    let m = read_more left c.in-Some.row.now rest s n at t.0 t.1 in
+    let on : at + 15 ≡ c.next.new.self.count * 15 = search rules in
+    (search rules, sym (ap (λ k. all_read (length rest / 15) k rest) on) ∙ sym m ∙ c.loop-i.invariant.1)
+
+first_fault : {T : Type 0} (left row rest : List ℕ) (at : ℕ) (x : Result T Refusal) (e : Refusal) → left ≡ row ++ rest → length row ≡ 15 → (f : Fault) × (reading row ≡ Err f) × (x ≡ Err (faulty f at)) → x ≡ Err e → Err e ≡ all_read (length left / 15) at left
+first_fault left row rest at x e split n (f, bad, is) was =
+    let m = read_fault left row rest split n at f bad in
+    let same : e ≡ faulty f at = cc in
+    ap Err same ∙ sym m
+
+pub returns-in_err-map_err : goal.returns-in_err-map_err
+returns-in_err-map_err c =
+    let p = err_from_is_err_and c.from_residual.result c.from_residual.ensures.1 in
+    p.1 ∙ ap Err p.2 ∙ first_fault c.loop-i.i-iterator.iter.rest.now c.in-Some.row.now c.next.new.self.iter.rest.now (c.loop-i.i-iterator.count * 15) c.map_err.result _ (search rules) (search rules) (search rules) c.in_err-map_err.was ∙ c.loop-i.invariant.1
+
+pub returns : goal.returns
+returns c =
+    let left = c.loop-i.i-iterator.iter.rest.now in
+    let none : length left / 15 ≡ 0 = search rules in
+    sym (none_left left _ none) ∙ c.loop-i.invariant.1

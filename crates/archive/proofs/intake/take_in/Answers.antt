@@ -7,7 +7,7 @@ use Rattle.archive.proofs.intake.take_in.Goals as goal
 pub returns-then-bytes-ne0 : goal.returns-then-bytes-ne0
 returns-then-bytes-ne0 g c =
     let before = g.A.Archive.meaning c.args.archive.now in
-    let a = not_whole before c.args.bytes.now c.if-bytes-ne0.true in
+    let a = ap Err c.new.ensures ∙ not_whole before c.args.bytes.now c.if-bytes-ne0.true in
     record { answer = a; after = taken_by before c.args.bytes.now _ a; memory = refl; lent = refl; again = taken_again }
 
 pub returns-in_err-check_rows : goal.returns-in_err-check_rows
@@ -21,7 +21,7 @@ returns-in_err-check_rows g c =
 pub returns-then-rows-free_places : goal.returns-then-rows-free_places
 returns-then-rows-free_places g c =
     let before = g.A.Archive.meaning c.args.archive.now in
-    let a = no_room before c.args.bytes.now c.if-bytes-ne0.false c.in_ok-check_rows.ensures (omega (arith, c.free_places.ensures)) in
+    let a = ap Err c.new-then-rows-free_places.ensures ∙ no_room before c.args.bytes.now c.if-bytes-ne0.false c.in_ok-check_rows.ensures (omega (arith, c.free_places.ensures)) in
     record { answer = a; after = taken_by before c.args.bytes.now _ a; memory = refl; lent = refl; again = taken_again }
 
 pub returns : goal.returns

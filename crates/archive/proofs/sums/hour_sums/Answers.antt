@@ -1,44 +1,44 @@
-use Rattle.std.proofs.Common.{◌+◌, take, sym, refl, ap, ◌∙◌, subst, arith}
-use Rattle.std.proofs.lemmas.List.{take_all}
+use Rattle.std.proofs.Common.{◌≡◌, ◌≤◌, refl, [], ◌∷◌, ◌++◌, length, sym, ap, ◌∙◌, subst, arith}
+use Rattle.std.proofs.lemmas.List.{append-nil, append_assoc}
 use Rattle.rows.proofs.Lawfully.{lawful_ranges}
-use Rattle.archive.specs.Sums.{hour_sum, sums_of}
-use Rattle.archive.specs.declared.sums.HourSums.{HourSums}
-use Rattle.archive.proofs.Summing.{Summed, row_there, summed_none, summed_skip, summed_add, summed_is, summed_small, added-small, read_lawful}
+use Rattle.archive.proofs.Summing.{Summed, summed_none, summed_skip, summed_add, summed_is, summed_small, added-small, row_lawful}
 use Rattle.archive.proofs.Zoning.{zone_law}
 use Rattle.archive.proofs.sums.hour_sums.Goals as goal
-use Rattle.archive.proofs.sums.hour_sums.Goals.{in-Some+then-is_in_hour, in-Some+else-is_in_hour, in_default}
 
-pub loop-i-init : goal.loop-i-init
-loop-i-init g c = summed_none c.args.kind c.args.day c.args.hour
+pub loop-row-init : goal.loop-row-init
+loop-row-init g c =
+    (c.into_iter-row-iterator.ensures.into_iter_gives ∙ c.rows-row-items.ensures.rows, summed_none c.args.kind c.args.day c.args.hour)
 
 pub add-requires : goal.add-requires
 add-requires g c =
-    let rs = (g.A.Archive.meaning c.args.archive.now).rows in
+    let rows = (g.A.Archive.meaning c.args.archive.now).rows in
     let r = c.in-Some.row in
-    let read = c.in-Some.ensures in
-    let lawful = c.count-count.ensures.lawful in
-    let small = added-small c.args.kind c.args.day c.args.hour rs c.loop-i.i r read lawful (omega (arith, c.count-count.ensures.few)) c.loop-i.sums.suppliers c.loop-i.sums.zone (sym c.if-is_in_hour.ensures) c.loop-i.invariant in
-    record { supplier = (lawful_ranges r (read_lawful rs c.loop-i.i r read lawful)).supplier; fits = small.0; all = small.1 }
+    let few : length rows ≤ 1000000 = omega (arith, c.rows-row-items.ensures.few) in
+    let order = ap (λ t. c.loop-row.yielded ++ t) (sym c.in-Some.ensures.steps) ∙ c.loop-row.invariant.0 in
+    let lawful = c.rows-row-items.ensures.lawful in
+    let law = row_lawful c.args.kind c.args.day c.args.hour rows c.loop-row.yielded r c.next.new.self order lawful in
+    let small = added-small c.args.kind c.args.day c.args.hour rows c.loop-row.yielded r c.next.new.self order lawful few c.loop-row.sums.suppliers c.loop-row.sums.zone (sym c.is_in_hour.ensures ∙ c.if-is_in_hour.true) c.loop-row.invariant.1 in
+    record { supplier = (lawful_ranges r law).supplier; fits = small.0; all = small.1 }
 
-pub loop-i-preserved : goal.loop-i-preserved
-loop-i-preserved g c =
-    let rs = (g.A.Archive.meaning c.args.archive.now).rows in
-    let P : HourSums → Type 0 = λ t. Summed c.args.kind c.args.day c.args.hour t.suppliers t.zone (take (c.loop-i.i + 1) rs) in
-    elim c.match-row.branch [
-      | in-Some+then-is_in_hour w ↦
-          let read = w.in-Some.ensures in
-          let t = summed_add c.args.kind c.args.day c.args.hour rs c.loop-i.i w.in-Some.row read c.loop-i.sums.suppliers c.loop-i.sums.zone _ _ (sym w.if-is_in_hour.ensures) (read_lawful rs c.loop-i.i w.in-Some.row read c.count-count.ensures.lawful) refl refl c.loop-i.invariant in
-          subst P (sym w.sums-is) (rw (w.add.ensures.suppliers, w.add.ensures.zone) t)
-      | in-Some+else-is_in_hour w ↦
-          subst P (sym w.sums-is) (summed_skip c.args.kind c.args.day c.args.hour rs c.loop-i.i w.in-Some.row w.in-Some.ensures c.loop-i.sums.suppliers c.loop-i.sums.zone (sym w.if-is_in_hour.ensures) c.loop-i.invariant)
-      | in_default w ↦ absurd (row_there rs c.loop-i.i (omega (arith, c.count-count.ensures.answer)) w.in_default.ensures)
-    ]
+pub loop-row-preserved-then-is_in_hour : goal.loop-row-preserved-then-is_in_hour
+loop-row-preserved-then-is_in_hour g c =
+    let rows = (g.A.Archive.meaning c.args.archive.now).rows in
+    let r = c.in-Some.row in
+    let order = ap (λ t. c.loop-row.yielded ++ t) (sym c.in-Some.ensures.steps) ∙ c.loop-row.invariant.0 in
+    let law = row_lawful c.args.kind c.args.day c.args.hour rows c.loop-row.yielded r c.next.new.self order c.rows-row-items.ensures.lawful in
+    (append_assoc c.loop-row.yielded (r ∷ []) c.next.new.self ∙ order, rw (c.add.ensures.suppliers, c.add.ensures.zone) (summed_add c.args.kind c.args.day c.args.hour c.loop-row.yielded r c.loop-row.sums.suppliers c.loop-row.sums.zone _ _ (sym c.is_in_hour.ensures ∙ c.if-is_in_hour.true) law refl refl c.loop-row.invariant.1))
+
+pub loop-row-preserved : goal.loop-row-preserved
+loop-row-preserved g c =
+    let order = ap (λ t. c.loop-row.yielded ++ t) (sym c.in-Some.ensures.steps) ∙ c.loop-row.invariant.0 in
+    (append_assoc c.loop-row.yielded (c.in-Some.row ∷ []) c.next.new.self ∙ order, summed_skip c.args.kind c.args.day c.args.hour c.loop-row.yielded c.in-Some.row _ _ (sym c.is_in_hour.ensures ∙ c.if-is_in_hour.false) c.loop-row.invariant.1)
 
 pub returns : goal.returns
 returns g c =
-    let rs = (g.A.Archive.meaning c.args.archive.now).rows in
-    let all = take_all c.loop-i.i rs (omega arith) in
+    let rows = (g.A.Archive.meaning c.args.archive.now).rows in
     let k = c.args.kind in
     let d = c.args.day in
     let h = c.args.hour in
-    record { suppliers = summed_is k d h c.loop-i.sums.suppliers c.loop-i.sums.zone _ c.loop-i.invariant ∙ ap (sums_of k d h) all; zone = c.loop-i.invariant.zone ∙ ap (hour_sum k d h) all; small = summed_small k d h c.loop-i.sums.suppliers c.loop-i.sums.zone rs c.loop-i.i c.count-count.ensures.lawful (omega (arith, c.count-count.ensures.few)) (omega (arith, c.count-count.ensures.answer)) c.loop-i.invariant; adds = zone_law }
+    let all : c.loop-row.yielded ≡ rows = sym (append-nil c.loop-row.yielded) ∙ ap (λ t. c.loop-row.yielded ++ t) (sym c.in-None.ensures.steps.0) ∙ c.loop-row.invariant.0 in
+    let p = subst (Summed k d h c.loop-row.sums.suppliers c.loop-row.sums.zone) all c.loop-row.invariant.1 in
+    record { suppliers = summed_is k d h _ _ rows p; zone = p.zone; small = summed_small k d h _ _ rows c.rows-row-items.ensures.lawful (omega (arith, c.rows-row-items.ensures.few)) p; adds = zone_law }

@@ -1,15 +1,15 @@
-use Rattle.std.proofs.Common.{length, Ok, sym, refl, ap, ◌∙◌, arith}
+use Rattle.std.proofs.Common.{rules, length, Ok, Err, sym, refl, ap, ◌∙◌, arith}
 use Rattle.archive.specs.Intake.{entered}
 use Rattle.archive.specs.Adjusting.{due_to, with_rows}
 use Rattle.archive.proofs.Adjusted.{lacks_is, unlawful_slot, too_large, no_place, all_placed, adjusted_by, found_rows, found_small, due_small}
 use Rattle.archive.proofs.Bringing.{adjusting_law}
-use Rattle.archive.proofs.Dues.{all_in_range_same}
+use Rattle.archive.proofs.Dues.{all_in_range_same, rows_for_count}
 use Rattle.archive.proofs.adjusting.calls.adjust.Goals as goal
 
 pub returns-then-not-is_lawful : goal.returns-then-not-is_lawful
 returns-then-not-is_lawful g c =
     let before = g.A.Archive.meaning c.args.archive.now in
-    let a = unlawful_slot before c.args.slot c.args.wanted.now (sym c.is_lawful.ensures ∙ c.if-not-is_lawful.true) in
+    let a = ap Err c.new.ensures ∙ unlawful_slot before c.args.slot c.args.wanted.now (sym c.is_lawful.ensures ∙ c.if-not-is_lawful.true) in
     record { answer = a; after = adjusted_by before c.args.slot c.args.wanted.now _ a; memory = refl; lent = refl; law = adjusting_law }
 
 pub returns-in_default : goal.returns-in_default
@@ -18,7 +18,7 @@ returns-in_default g c =
     let slot = c.args.slot in
     let wanted = c.args.wanted.now in
     let due = lacks_is slot wanted c.hour_sums-sums.result.suppliers before.rows c.hour_sums-sums.ensures.suppliers in
-    let a = too_large before slot wanted (sym c.is_lawful.ensures ∙ c.if-not-is_lawful.false) (sym (all_in_range_same _ (due_to slot wanted before.rows) 32 due) ∙ c.in_default.ensures) in
+    let a = ap Err c.new-in_default.ensures ∙ too_large before slot wanted (sym c.is_lawful.ensures ∙ c.if-not-is_lawful.false) (sym (all_in_range_same _ (due_to slot wanted before.rows) 32 due) ∙ c.in_default.ensures) in
     record { answer = a; after = adjusted_by before slot wanted _ a; memory = refl; lent = refl; law = adjusting_law }
 
 pub returns-then-rows-free_places : goal.returns-then-rows-free_places
@@ -30,7 +30,8 @@ returns-then-rows-free_places g c =
     let q = c.in-Some.ensures in
     let rows = found_rows before slot wanted sums c.in-Some.all c.hour_sums-sums.ensures.suppliers q.1 in
     let small = due_small before slot wanted sums c.in-Some.all c.hour_sums-sums.ensures.suppliers q.1 q.0 in
-    let a = no_place before slot wanted (sym c.is_lawful.ensures ∙ c.if-not-is_lawful.false) small (omega (arith, c.rows_needed-rows.ensures slot, ap length rows, c.free_places.ensures)) in
+    let count = c.rows_needed-rows.ensures ∙ rows_for_count slot c.in-Some.all (search rules) ∙ ap length rows in
+    let a = ap Err c.new-then-rows-free_places.ensures ∙ no_place before slot wanted (sym c.is_lawful.ensures ∙ c.if-not-is_lawful.false) small (omega (arith, count, c.free_places.ensures)) in
     record { answer = a; after = adjusted_by before slot wanted _ a; memory = refl; lent = refl; law = adjusting_law }
 
 pub append_dues-requires : goal.append_dues-requires
@@ -40,7 +41,7 @@ append_dues-requires g c =
     record {
       slot = sym c.is_lawful.ensures ∙ c.if-not-is_lawful.false;
       amounts = found_small before c.args.slot c.args.wanted.now c.hour_sums-sums.result.suppliers c.in-Some.all c.hour_sums-sums.ensures.suppliers q.1 q.0;
-      room = omega (arith, c.rows_needed-rows.ensures c.args.slot, c.free_places.ensures);
+      room = omega (arith, c.rows_needed-rows.ensures ∙ rows_for_count c.args.slot c.in-Some.all (search rules), c.free_places.ensures);
     }
 
 pub returns : goal.returns
@@ -52,7 +53,7 @@ returns g c =
     let q = c.in-Some.ensures in
     let rows = found_rows before slot wanted sums c.in-Some.all c.hour_sums-sums.ensures.suppliers q.1 in
     let small = due_small before slot wanted sums c.in-Some.all c.hour_sums-sums.ensures.suppliers q.1 q.0 in
-    let count = c.rows_needed-rows.ensures slot ∙ ap length rows in
+    let count = c.rows_needed-rows.ensures ∙ rows_for_count slot c.in-Some.all (search rules) ∙ ap length rows in
     let a = all_placed before slot wanted (sym c.is_lawful.ensures ∙ c.if-not-is_lawful.false) small (omega (arith, count, c.free_places.ensures)) in
     record {
       answer = ap Ok count ∙ a;

@@ -1,5 +1,6 @@
 use Rattle.std.proofs.Common.{length, sym, refl, ap, ◌∙◌}
 use Rattle.std.proofs.lemmas.Int.{to_z-of_z}
+use Rattle.archive.specs.Contents.{appending, appended, kept}
 use Rattle.archive.specs.Intake.{entered}
 use Rattle.archive.specs.Adjusting.{with_rows}
 use Rattle.archive.proofs.Adding.{one_appended, with_rows-none}
@@ -20,8 +21,9 @@ pub returns : goal.returns
 returns g c =
     let f = c.ranges.amount in
     let before = g.A.Archive.meaning c.args.archive.now in
-    let answer = simp to_z-of_z at c.append.ensures.answer in
-    let after = simp to_z-of_z at c.append.ensures.after in
-    let memory = simp to_z-of_z at c.append.ensures.memory in
+    let is = simp to_z-of_z at c.row.ensures in
+    let answer = c.append.ensures.answer ∙ ap (appending before) is in
+    let after = c.append.ensures.after ∙ ap (appended before) is in
+    let memory = c.append.ensures.memory ∙ ap (λ r. kept c.append.result (g.A.Archive.stamped (g.A.Archive.memory c.args.archive.now) (length before.rows) r) (g.A.Archive.memory c.args.archive.now)) is in
     let p = one_appended g.A.Archive.stamped c.args.slot c.args.supplier c.args.amount before _ (g.A.Archive.memory c.args.archive.now) _ c.append.result c.requires.slot c.requires.supplier c.requires.amount (bits_other c.args.amount c.if-amount-eq0.false) c.requires.room answer after memory in
     record { after = p.0; memory = p.1; lent = c.append.ensures.lent }
