@@ -1,10 +1,10 @@
 -- The figures of a peak line: that they fit, and the sum and number of the present ones. Assumes nothing.
-use Rattle.std.proofs.Common.{◌≡◌, cond, Some, None, Option, Ok, Err, refl, ℕ, zero, suc, ◌+◌, ◌*◌, ◌/◌, ◌<◌, ◌≤◌, Bool, true, false, ◌&&◌, eqb, leb, List, [], ◌∷◌, ◌++◌, length, get_or, take, drop, sum_by, filter, sym, ap, ◌∙◌, le_of_suc-le-suc, not-suc-le-zero, div-le_self, arith}
+use Rattle.std.proofs.Common.{◌≡◌, cond, Some, None, Option, Ok, Err, refl, ℕ, ◌+◌, ◌*◌, ◌/◌, ◌<◌, ◌≤◌, Bool, true, false, ◌&&◌, eqb, leb, List, [], ◌∷◌, ◌++◌, length, get_or, take, drop, sum_by, filter, sym, ap, ◌∙◌, div-le_self, arith}
 use Rattle.std.proofs.lemmas.Nat.{mul-le}
 use Rattle.std.proofs.lemmas.List.Elements.{filter_more}
 use Rattle.std.proofs.lemmas.List.{at_drop_more, length-append, append-nil, take_all}
 use Rattle.std.proofs.lemmas.List.Sums.{sum_by_push}
-use Rattle.std.proofs.lemmas.Bool.{and_from, cond_both, cond-true, cond-false, and_parts, and_left}
+use Rattle.std.proofs.lemmas.Bool.{and_from, cond_both, cond-true, cond-false, and_parts}
 use Rattle.std.proofs.lemmas.Bool.Decides.{nat_tests}
 use Rattle.rules.specs.Ranges.{is_account, between, missing, is_loss_factor, is_usage, is_profile_usage, is_reading, is_coincidence}
 use Rattle.rules.specs.Loads.{rounded}
@@ -18,21 +18,12 @@ use Rattle.refusals.specs.declared.Cause.{Cause}
 use Rattle.refusals.specs.declared.Cause.TheVariants.{OutOfRange, UsageTooHigh}
 use Rattle.rules.proofs.Products.{greatest, loss_small, usage_small, profile_small, product_small}
 
--- a figure among those that all fit
-pub fits_at : (b : Basis) (xs : List ℕ) (i : ℕ) → i < length xs → all_fit b xs ≡ true → figure_fits b (get_or xs i 0) ≡ true
-fits_at b [] i h all = absurd (not-suc-le-zero h)
-fits_at b (x ∷ xs) zero h all = (and_parts (figure_fits b x) (all_fit b xs) all).0
-fits_at b (x ∷ xs) (suc i) h all = fits_at b xs i (le_of_suc-le-suc h) (and_parts (figure_fits b x) (all_fit b xs) all).1
-
 module _ (b : Basis) (xs : List ℕ) (i : ℕ) (h : i < length xs) where
   here : all_fit b (drop i xs) ≡ (figure_fits b (get_or xs i 0) && all_fit b (drop (i + 1) xs))
   here = at_drop_more (all_fit b) xs i 0 h
 
   pub fit_more : figure_fits b (get_or xs i 0) ≡ true → all_fit b (drop (i + 1) xs) ≡ all_fit b (drop i xs)
   fit_more e = sym (here ∙ ap (λ t. t && all_fit b (drop (i + 1) xs)) e)
-
-  pub fit_ends : figure_fits b (get_or xs i 0) ≡ false → all_fit b (drop i xs) ≡ false
-  fit_ends e = here ∙ and_left (figure_fits b (get_or xs i 0)) (all_fit b (drop (i + 1) xs)) e
 
 -- one figure more, that passes or not
 module _ (p : ℕ → Bool) (xs : List ℕ) (i : ℕ) (h : i < length xs) where

@@ -1,14 +1,14 @@
 -- What the laws of an arrangement give the totals of the groups. Assumes nothing.
 use Rattle.std.proofs.Common.{◌≡◌, ℕ, ◌+◌, ◌≤◌, ◌||◌, ℤ, pos, negsuc, ◌+ℤ◌, nat_abs, IfOk, Err, Result, ap, ◌∙◌, arith, w64, to_z, of_z}
 use Rattle.std.proofs.lemmas.Int.{ints}
-use Rattle.std.proofs.lemmas.Bool.{cond-true, cond_both, le-leb}
+use Rattle.std.proofs.lemmas.Bool.{cond_both}
 use Rattle.refusals.specs.declared.Refusal.{Refusal}
 use Rattle.refusals.specs.declared.Cause.TheVariants.{UnloadedGroup}
 use Rattle.refusals.specs.declared.Layer.TheVariants.{Sharing}
 use Rattle.refusals.specs.Numbers.{refusal}
 use Rattle.rules.specs.Ranges.{most}
 use Rattle.rules.specs.Parts.{unaccounted, Sided}
-use Rattle.rules.specs.Totals.{unloaded, naturals, lawful_totals, with_parts, group_totals}
+use Rattle.rules.specs.Totals.{unloaded, naturals, lawful_totals, with_parts}
 use Rattle.rules.specs.Portions.{parts-small}
 
 -- a small number is the same in 64 bits
@@ -25,12 +25,6 @@ module _ (u : ℤ) (r m : ℤ × ℤ) (is : r ≡ m) (whole : m.0 +ℤ m.1 ≡ u
 
   second_is : to_z w64 (of_z w64 r.1) ≡ m.1
   second_is = rw is (through m.1 (omega (arith, small-parts.1)))
-
-  pub first_small : nat_abs (to_z w64 (of_z w64 r.0)) ≤ most
-  first_small = rw first_is small-parts.0
-
-  pub second_small : nat_abs (to_z w64 (of_z w64 r.1)) ≤ most
-  second_small = rw second_is small-parts.1
 
   -- a load w with a part x
   total_is : (w : ℕ) (x s y : ℤ) → w ≤ most → nat_abs x ≤ most → s ≡ pos w +ℤ y → y ≡ x → to_z w64 (of_z w64 s) ≡ pos w +ℤ x
@@ -57,7 +51,3 @@ totals-whole zone wi wp p e =
     let s = pos wi +ℤ p.0 in
     let t = pos wp +ℤ p.1 in
     cond_both (unloaded wi s || unloaded wp t) (Err (refusal UnloadedGroup Sharing 0)) (naturals s t) (λ r. IfOk r (λ n. n.0 + n.1 ≡ zone)) (λ b. tt) (λ b. naturals-whole zone s t (omega (arith, ints)))
-
--- what is totalled where neither the zone load nor the loads are too great
-pub in_bounds : (m : ℤ → ℕ → ℕ → ℤ × ℤ) (zone wi wp : ℕ) → zone ≤ most → wi + wp ≤ most → group_totals m zone wi wp ≡ with_parts wi wp (m (unaccounted zone wi wp) wi wp)
-in_bounds m zone wi wp p q = cond-true _ _ _ (le-leb zone most p) ∙ cond-true _ _ _ (le-leb (wi + wp) most q)

@@ -1,9 +1,8 @@
 -- The laws of sharing. Assumes nothing.
-use Rattle.std.proofs.Common.{◌≡◌, ℕ, zero, suc, ◌+◌, ◌-◌, ◌*◌, ◌/◌, ◌<◌, ◌≤◌, ◌⊎◌, List, [], ◌∷◌, ◌++◌, length, get_or, sum, sym, refl, ap, ◌∙◌, inl, inr, le_of_suc-le-suc, not-suc-le-zero, add-zero, mul-zero, zero-add, mul-add, div-le_self, div-mul-le_self, mul-div_cancel, arith}
+use Rattle.std.proofs.Common.{◌≡◌, ℕ, zero, suc, ◌+◌, ◌-◌, ◌*◌, ◌/◌, ◌<◌, ◌≤◌, ◌⊎◌, List, [], ◌∷◌, ◌++◌, length, get_or, sum, sym, refl, ap, ◌∙◌, inl, inr, le_of_suc-le-suc, not-suc-le-zero, add-zero, mul-zero, zero-add, mul-add, div-mul-le_self, mul-div_cancel, arith}
 use native.Mathlib.Nat.{zero-div, div-zero, lt-div-mul-add, mul-sub}
 use Rattle.std.proofs.lemmas.List.Sums.{sum_by-cons}
-use Rattle.std.proofs.lemmas.Nat.{le-div, mul-le}
-use Rattle.rules.specs.Ranges.{most}
+use Rattle.std.proofs.lemmas.Nat.{le-div}
 use Rattle.rules.specs.Shares.{up_to, shares_after, shares, plus, finals, Near, SharesAddUp, SharesAreNear, OwnGroupOnly, FinalsAddUp, OneGroup, SharingLaws}
 
 -- more weight, no smaller part
@@ -26,9 +25,6 @@ up_to_le g (suc v) c h = within g (suc v) c (omega arith) h
     within g w c p h =
         let all : up_to g w (c + (w - c)) ≡ g = ap (up_to g w) (omega arith) ∙ mul-div_cancel g p in
         omega (arith, up_to_rises g w c (w - c), all)
-
-pub up_to-small : (g w c : ℕ) → g ≤ most → c ≤ most → up_to g w c ≤ most * most
-up_to-small g w c p q = omega (arith, div-le_self (g * c) w, mul-le g c most most p q)
 
 pub sum_cons : (x : ℕ) (xs : List ℕ) → sum (x ∷ xs) ≡ x + sum xs
 sum_cons x xs = sum_by-cons (λ y. y) x xs

@@ -73,8 +73,5 @@ module _ {X : Type 0} (x : X) where
 
 -- what it leaves in the list
 module _ {X : Type 0} (amount : ℕ → X) (g h : ℕ) (ws vs : List ℕ) (list : List X) where
-  pub left_alone : (e : Refusal) → sharing g h ws vs (length list) ≡ Err e → list ≡ shared amount g h ws vs list
-  left_alone e refused = sym (ap (λ r. if_shared r (map amount (finals g h ws vs) ++ drop (length ws) list) list) refused)
-
   pub served : sharing g h ws vs (length list) ≡ Ok tt → map amount (finals g h ws vs) ++ drop (length ws) list ≡ shared amount g h ws vs list
   served ok = sym (ap (λ r. if_shared r (map amount (finals g h ws vs) ++ drop (length ws) list) list) ok)

@@ -2,10 +2,10 @@
 ghost use Rattle.std.specs.Prelude.{◌≡◌, ◌+◌, ◌≤◌, pos, ◌+ℤ◌, IfOk, unsigned_abs};
 ghost use Rattle.rules.specs.Ranges.{most};
 ghost use Rattle.rules.specs.Parts.{unaccounted};
-ghost use Rattle.rules.specs.Totals.{unloaded, naturals, lawful_totals, group_totals};
+ghost use Rattle.rules.specs.Totals.{unloaded, natural, lawful_totals, group_totals};
 
 use crate::arrangements::Arrangement;
-use crate::sharing::MOST;
+use crate::sharing::{MOST, within_most};
 use refusals::{Cause, Layer, Refusal};
 
 /// Zone load less the sum of the loads.
@@ -28,29 +28,23 @@ fn with_part(load: u64, part: i64) -> i64
 fn is_unloaded(load: u64, total: i64) -> bool
     ensures { result ≡ unloaded load total }
 {
-    load == 0 && total.unsigned_abs() >= 1
+    load == 0 && total != 0
 }
 
-fn both_natural(first: i64, second: i64) -> Result<(u64, u64), Refusal>
-    ensures { result ≡ naturals first second }
+fn natural(total: i64) -> Result<u64, Refusal>
+    ensures { result ≡ natural total }
 {
-    if first < 0 {
-        return Err(Refusal::new(Cause::NegativeTotal, Layer::Sharing));
-    }
-    if second < 0 {
-        return Err(Refusal::new(Cause::NegativeTotal, Layer::Sharing));
-    }
-    Ok((first as u64, second as u64))
+    u64::try_from(total).map_err(|_| Refusal::new(Cause::NegativeTotal, Layer::Sharing))
 }
 
+// Loads and totals stay two numbers each, as `parts` and `share` take them.
 fn lawful_totals(wi: u64, wp: u64, first: i64, second: i64) -> Result<(u64, u64), Refusal>
     ensures { result ≡ lawful_totals wi wp first second }
 {
     if is_unloaded(wi, first) || is_unloaded(wp, second) {
-        Err(Refusal::new(Cause::UnloadedGroup, Layer::Sharing))
-    } else {
-        both_natural(first, second)
+        return Err(Refusal::new(Cause::UnloadedGroup, Layer::Sharing));
     }
+    Ok((natural(first)?, natural(second)?))
 }
 
 /// The interval load and the profiled load, each with its part of what is unaccounted for at the zone load.
@@ -66,7 +60,7 @@ pub fn group_totals<A: Arrangement>(
     if zone > MOST {
         return Err(Refusal::new(Cause::OutOfRange, Layer::Sheet));
     }
-    if interval > MOST || profiled > MOST - interval {
+    if !within_most(interval, profiled) {
         return Err(Refusal::new(Cause::LoadsTooHigh, Layer::Sharing));
     }
     let u = unaccounted_for(zone, interval, profiled);
