@@ -17,34 +17,46 @@ fn unaccounted_for(zone: u64, wi: u64, wp: u64) -> i64
     zone as i64 - (wi + wp) as i64
 }
 
-fn with_part(load: u64, part: i64) -> i64
-    requires { (load ≤ most) × (unsigned_abs part ≤ most) }
-    ensures { result ≡ pos load +ℤ part }
-{
-    load as i64 + part
+/// A group's load, and the total that its lines are to share.
+#[derive(Clone, Copy)]
+struct Group {
+    load: u64,
+    total: i64,
 }
 
-/// A total other than 0 where there is no load to share it by.
-fn is_unloaded(load: u64, total: i64) -> bool
-    ensures { result ≡ unloaded load total }
-{
-    load == 0 && total != 0
+impl Group {
+    fn new(load: u64, part: i64) -> Group
+        requires { (load ≤ most) × (unsigned_abs part ≤ most) }
+        ensures { (result.load ≡ load) × (result.total ≡ pos load +ℤ part) }
+    {
+        Group {
+            load,
+            total: load as i64 + part,
+        }
+    }
+
+    /// A total other than 0 where there is no load to share it by.
+    fn is_unloaded(self) -> bool
+        ensures { result ≡ unloaded self.load self.total }
+    {
+        self.load == 0 && self.total != 0
+    }
+
+    /// The total, refused below 0.
+    fn natural(self) -> Result<u64, Refusal>
+        ensures { result ≡ natural self.total }
+    {
+        u64::try_from(self.total).map_err(|_| Refusal::new(Cause::NegativeTotal, Layer::Sharing))
+    }
 }
 
-fn natural(total: i64) -> Result<u64, Refusal>
-    ensures { result ≡ natural total }
+fn lawful_totals(first: Group, second: Group) -> Result<(u64, u64), Refusal>
+    ensures { result ≡ lawful_totals first.load second.load first.total second.total }
 {
-    u64::try_from(total).map_err(|_| Refusal::new(Cause::NegativeTotal, Layer::Sharing))
-}
-
-// Loads and totals stay two numbers each, as `parts` and `share` take them.
-fn lawful_totals(wi: u64, wp: u64, first: i64, second: i64) -> Result<(u64, u64), Refusal>
-    ensures { result ≡ lawful_totals wi wp first second }
-{
-    if is_unloaded(wi, first) || is_unloaded(wp, second) {
+    if first.is_unloaded() || second.is_unloaded() {
         return Err(Refusal::new(Cause::UnloadedGroup, Layer::Sharing));
     }
-    Ok((natural(first)?, natural(second)?))
+    Ok((first.natural()?, second.natural()?))
 }
 
 /// The interval load and the profiled load, each with its part of what is unaccounted for at the zone load.
@@ -65,10 +77,5 @@ pub fn group_totals<A: Arrangement>(
     }
     let u = unaccounted_for(zone, interval, profiled);
     let (i, p) = arrangement.parts(u, interval, profiled);
-    lawful_totals(
-        interval,
-        profiled,
-        with_part(interval, i),
-        with_part(profiled, p),
-    )
+    lawful_totals(Group::new(interval, i), Group::new(profiled, p))
 }
