@@ -26,6 +26,9 @@ module _ (u : ℤ) (r m : ℤ × ℤ) (is : r ≡ m) (whole : m.0 +ℤ m.1 ≡ u
   second_is : to_z w64 (of_z w64 r.1) ≡ m.1
   second_is = rw is (through m.1 (omega (arith, small-parts.1)))
 
+  pub second_small : nat_abs (to_z w64 (of_z w64 r.1)) ≤ most
+  second_small = rw second_is small-parts.1
+
   -- the totals s and t that the code makes are those of the rule
   pub totalled : (wi wp : ℕ) (s t : ℤ) (res : Result (ℕ × ℕ) Refusal) → s ≡ pos wi +ℤ to_z w64 (of_z w64 r.0) → t ≡ pos wp +ℤ to_z w64 (of_z w64 r.1) → res ≡ lawful_totals wi wp s t → res ≡ with_parts wi wp m
   totalled wi wp s t res e f told =

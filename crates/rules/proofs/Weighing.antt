@@ -1,6 +1,6 @@
 -- When the weights of a sheet, and with them its sharing, are refused. Assumes nothing.
-use Rattle.std.proofs.Common.{◌≡◌, ℕ, ◌+◌, ◌<◌, ◌≤◌, true, cond, ◌&&◌, leb, ◌⊎◌, List, ◌++◌, map, length, drop, Ok, Err, sum_by, sum, Result, sym, refl, ap, ◌∙◌, inl, inr, arith}
-use Rattle.std.proofs.lemmas.List.Sums.{sum-map}
+use Rattle.std.proofs.Common.{◌≡◌, ℕ, ◌+◌, ◌<◌, ◌≤◌, true, cond, ◌&&◌, leb, ◌⊎◌, List, ◌++◌, map, length, get_or, take, drop, Ok, Err, sum_by, sum, Result, sym, refl, ap, ◌∙◌, inl, inr, arith}
+use Rattle.std.proofs.lemmas.List.Sums.{sum-map, sum_by_more, sum_by-take-le}
 use Rattle.std.proofs.lemmas.Bool.{cond-true, cond-false, cond_both, le-leb, lt-leb, leb-true, and_parts, and_from, and_left, and_right}
 use Rattle.refusals.specs.declared.Refusal.{Refusal}
 use Rattle.refusals.specs.declared.Cause.TheVariants.{OutOfRange, ListTooShort, LoadsTooHigh}
@@ -21,6 +21,10 @@ module _ {L : Type 0} (f s : L → ℕ) (ls : List L) where
 
   pub weighed_heavy : most < sum_by f ls + sum_by s ls → Err (refusal LoadsTooHigh Sharing 0) ≡ weighed (map f ls) (map s ls)
   weighed_heavy h = sym (cond-false _ _ _ (lt-leb (sum (map f ls) + sum (map s ls)) most (omega (arith, both_sums))))
+
+-- the weight of the next line, with those before, is within the whole
+pub weight_within : {L : Type 0} (f : L → ℕ) (ls : List L) (i x : ℕ) (l : L) → i < length ls → l ≡ get_or ls i l → x ≡ f l → sum_by f (take i ls) + x ≤ sum_by f ls
+weight_within f ls i x l lt at weight = omega (arith, ap f at, sum_by_more f ls i l lt, sum_by-take-le f ls (i + 1))
 
 -- what an answer tells
 pub weights_are : (ws vs : List ℕ) (t : ℕ × ℕ) → Ok t ≡ weighed ws vs → (t.0 ≡ sum ws) × (t.1 ≡ sum vs) × (sum ws + sum vs ≤ most)

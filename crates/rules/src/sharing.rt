@@ -22,6 +22,7 @@ pub trait Weighted {
         ensures { result ≡ (in_first self.now, in_second self.now) };
 
     /// So many units.
+    // Not `From<u64>` on the unit: here the clauses name its value, and there only a relation.
     fn amount(n: u64) -> Self::Unit
         ensures { result ≡ amounts n };
 }
