@@ -1,8 +1,8 @@
 -- The figures of a peak line: that they fit, and the sum and number of the present ones. Assumes nothing.
-use Rattle.std.proofs.Common.{◌≡◌, cond, Some, None, Option, Ok, Err, Result, refl, ℕ, ◌+◌, ◌*◌, ◌/◌, ◌<◌, ◌≤◌, Bool, true, false, ◌&&◌, eqb, leb, List, [], ◌∷◌, ◌++◌, length, get_or, take, drop, sum_by, filter, sym, ap, ◌∙◌, div-le_self, arith}
+use Rattle.std.proofs.Common.{◌≡◌, cond, Some, None, Option, Ok, Err, Result, refl, ℕ, ◌+◌, ◌*◌, ◌<◌, ◌≤◌, Bool, true, false, ◌&&◌, eqb, leb, List, [], ◌∷◌, ◌++◌, length, get_or, take, drop, sum_by, filter, sym, ap, ◌∙◌, div-le_self, arith}
 use Rattle.std.proofs.lemmas.Nat.{mul-le}
 use Rattle.std.proofs.lemmas.List.Elements.{filter_more}
-use Rattle.std.proofs.lemmas.List.{at_drop_more, length-append, append-nil, take_all}
+use Rattle.std.proofs.lemmas.List.{at_drop_more, length-append, append-nil}
 use Rattle.std.proofs.lemmas.List.Sums.{sum_by_push}
 use Rattle.std.proofs.lemmas.Bool.{and_from, cond_both, cond-true, cond-false, and_parts}
 use Rattle.std.proofs.lemmas.Bool.Decides.{nat_tests}
@@ -10,7 +10,7 @@ use Rattle.std.specs.Result.{IsErrAnd, result_err, result_unwrap_or}
 use Rattle.std.proofs.lemmas.Result.{err_from_is_err_and}
 use Rattle.rules.specs.Ranges.{is_account, between, missing, is_loss_factor, is_usage, is_profile_usage, is_reading, is_coincidence}
 use Rattle.rules.specs.Loads.{rounded}
-use Rattle.rules.specs.Peaks.{Basis, Readings, Profile, Demand, is_present, cause_on, weight_on, in_range_on, usage_fits_on, further_fits, figure_fits, all_fit, figure_load, present, average_load}
+use Rattle.rules.specs.Peaks.{Basis, Readings, Profile, Demand, is_present, cause_on, weight_on, in_range_on, usage_fits_on, further_fits, figure_fits, all_fit, figure_load, average_load}
 use Rattle.rules.specs.declared.peaks.Basis.{Basis as BasisT}
 use Rattle.rules.specs.declared.peaks.Basis.TheVariants as kept
 use Rattle.rules.specs.Bases.{bare, load_if_fits, if_further_fits, average_if_fits, ratio_on}
@@ -61,15 +61,6 @@ load_small loss (Profile billed usage) x l f e =
     omega (arith, rounded-small (x * billed * loss) (usage * 10000), product_small x billed loss 1000000 100000000 20000 (profile_small x e) u (loss_small loss l))
 load_small loss (Demand demand) x l f e =
     omega (arith, rounded-small (demand * x * loss) 100000000, product_small demand x loss 100000000 10000 20000 (usage_small demand f) (coincidence_small x e) (loss_small loss l))
-
--- when all figures are seen, their sum and their number give the average
-pub averaged : (loss : ℕ) (b : Basis) (xs : List ℕ) (i t n : ℕ) → length xs ≤ i → t ≡ sum_by (figure_load loss b) (present b (take i xs)) →
-    n ≡ length (present b (take i xs)) → t / n ≡ average_load loss b xs
-averaged loss b xs i t n h p q =
-    let all : take i xs ≡ xs = take_all i xs h in
-    let sum_is : t ≡ sum_by (figure_load loss b) (present b xs) = p ∙ ap (λ ys. sum_by (figure_load loss b) (present b ys)) all in
-    let number_is : n ≡ length (present b xs) = q ∙ ap (λ ys. length (present b ys)) all in
-    ap (λ u. u / n) sum_is ∙ ap (λ u. sum_by (figure_load loss b) (present b xs) / u) number_is
 
 -- what an answer tells that a test decides
 passed : {X : Type 0} (t : Bool) (x y : X) (e : Cause) → Ok x ≡ cond t (Ok y) (Err e) → (t ≡ true) × (x ≡ y)
