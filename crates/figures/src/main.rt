@@ -60,24 +60,38 @@ fn print_parts(rt: HostRuntime, parts: (i64, i64)) -> io::Result<()> {
     println!(rt; "parts {} {}", parts.0, parts.1)
 }
 
-fn main(rt: HostRuntime) -> io::Result<()> {
-    let sheet = worked_sheet();
-    for line in &sheet {
+fn print_at_five_percent(
+    rt: HostRuntime,
+    sheet: &[Line],
+    interval: u64,
+    profiled: u64,
+) -> io::Result<()> {
+    let Ok(five) = Percent::new(5) else {
+        return Ok(());
+    };
+    println!(rt; "at 5 percent")?;
+    print_parts(rt, five.parts(UNACCOUNTED, interval, profiled))?;
+    print_settled(rt, &five, sheet)?;
+    println!(rt; "-49 at 5 percent")?;
+    print_parts(rt, five.parts(-49, interval, profiled))
+}
+
+fn print_sheet(rt: HostRuntime, sheet: &[Line]) -> io::Result<()> {
+    for line in sheet {
         println!(rt; "load {}", line.load().0)?;
     }
-    if let Ok((interval, profiled)) = weigh(&sheet) {
-        println!(rt; "interval {interval}, profiled {profiled}")?;
-        if let Ok(five) = Percent::new(5) {
-            println!(rt; "at 5 percent")?;
-            print_parts(rt, five.parts(UNACCOUNTED, interval, profiled))?;
-            print_settled(rt, &five, &sheet)?;
-            println!(rt; "-49 at 5 percent")?;
-            print_parts(rt, five.parts(-49, interval, profiled))?;
-        }
-        println!(rt; "pro rata")?;
-        print_parts(rt, ProRata.parts(UNACCOUNTED, interval, profiled))?;
-        print_settled(rt, &ProRata, &sheet)?;
-    }
+    let Ok((interval, profiled)) = weigh(sheet) else {
+        return Ok(());
+    };
+    println!(rt; "interval {interval}, profiled {profiled}")?;
+    print_at_five_percent(rt, sheet, interval, profiled)?;
+    println!(rt; "pro rata")?;
+    print_parts(rt, ProRata.parts(UNACCOUNTED, interval, profiled))?;
+    print_settled(rt, &ProRata, sheet)
+}
+
+fn main(rt: HostRuntime) -> io::Result<()> {
+    print_sheet(rt, &worked_sheet())?;
     println!(rt; "peak")?;
     print_peaks(rt, &worked_peaks())
 }

@@ -6,30 +6,13 @@
 mod tests {
     use refusals::{Cause, Refusal};
     use rules::{
-        Arrangement, Energy, Line, MISSING, PeakLine, Percent, ProRata, group_totals, obligations,
-        share,
+        Arrangement, Energy, Line, MISSING, PeakLine, Percent, Power, ProRata, can_part,
+        group_totals, is_account, obligations, share,
     };
     use std::test::Fail;
 
-    // 0 for none.
-    fn number(cause: Option<Cause>) -> u8 {
-        match cause {
-            Some(cause) => cause.number(),
-            None => 0,
-        }
-    }
-
-    // Number, layer and place; zeros for none.
-    fn told(refusal: Option<Refusal>) -> (u8, u8, usize) {
-        match refusal {
-            Some(refusal) => (
-                refusal.cause.number(),
-                refusal.layer.number(),
-                refusal.place,
-            ),
-            None => (0, 0, 0),
-        }
-    }
+    // Those of a refusal: cause, layer and place.
+    type Numbers = (u8, u8, usize);
 
     fn interval(account: u32, loss_factor: u32, reading: u32) -> Line {
         Line::Interval {
@@ -66,21 +49,36 @@ mod tests {
     }
 
     #[test]
+    fn accounts(rt: HostRuntime) {
+        let table = [
+            (0, false),
+            (1, true),
+            (999_999_999, true),
+            (1_000_000_000, false),
+        ];
+        for (n, wanted) in table {
+            assert_eq!(rt; is_account(n), wanted);
+        }
+    }
+
+    #[test]
     fn interval_lines(rt: HostRuntime) {
         let table = [
-            (1, 10_000, 0, 0),
-            (999_999_999, 20_000, 100_000_000, 0),
-            (1, 10_000, MISSING, 0),
-            (0, 10_000, 0, 10),
-            (1_000_000_000, 10_000, 0, 10),
-            (1, 9_999, 0, 10),
-            (1, 20_001, 0, 10),
-            (1, 10_000, 100_000_001, 10),
-            (1, 10_000, MISSING - 1, 10),
+            (1, 10_000, 0, None),
+            (999_999_999, 20_000, 100_000_000, None),
+            (1, 10_000, MISSING, None),
+            (0, 10_000, 0, Some(10)),
+            (1_000_000_000, 10_000, 0, Some(10)),
+            (1, 9_999, 0, Some(10)),
+            (1, 20_001, 0, Some(10)),
+            (1, 10_000, 100_000_001, Some(10)),
+            (1, 10_000, MISSING - 1, Some(10)),
         ];
         for (account, loss_factor, reading, wanted) in table {
             assert_eq!(rt;
-                number(interval(account, loss_factor, reading).cause()),
+                interval(account, loss_factor, reading)
+                    .cause()
+                    .map(Cause::number),
                 wanted
             );
         }
@@ -89,21 +87,23 @@ mod tests {
     #[test]
     fn profiled_lines(rt: HostRuntime) {
         let table = [
-            (10_000, 0, 0, 1, 0),
-            (20_000, 1_000_000, 100_000_000, 2_000_000_000, 0),
-            (10_000, 1_000_001, 0, 1, 10),
-            (10_000, MISSING, 0, 1, 10),
-            (10_000, 0, 100_000_001, 2_000_000_000, 10),
-            (10_000, 0, 0, 0, 10),
-            (10_000, 0, 0, 2_000_000_001, 10),
-            (10_000, 0, 100, 1, 0),
-            (10_000, 0, 101, 1, 22),
-            (10_000, 0, 100_000_000, 999_999, 22),
-            (9_999, 0, 101, 1, 10),
+            (10_000, 0, 0, 1, None),
+            (20_000, 1_000_000, 100_000_000, 2_000_000_000, None),
+            (10_000, 1_000_001, 0, 1, Some(10)),
+            (10_000, MISSING, 0, 1, Some(10)),
+            (10_000, 0, 100_000_001, 2_000_000_000, Some(10)),
+            (10_000, 0, 0, 0, Some(10)),
+            (10_000, 0, 0, 2_000_000_001, Some(10)),
+            (10_000, 0, 100, 1, None),
+            (10_000, 0, 101, 1, Some(22)),
+            (10_000, 0, 100_000_000, 999_999, Some(22)),
+            (9_999, 0, 101, 1, Some(10)),
         ];
         for (loss_factor, profile_load, billed, usage, wanted) in table {
             assert_eq!(rt;
-                number(profiled(loss_factor, profile_load, billed, usage).cause()),
+                profiled(loss_factor, profile_load, billed, usage)
+                    .cause()
+                    .map(Cause::number),
                 wanted
             );
         }
@@ -112,25 +112,25 @@ mod tests {
     #[test]
     fn peak_lines(rt: HostRuntime) {
         let table = [
-            (0, 0, 0, 0, 10),
-            (1, MISSING, 0, 0, 0),
-            (1, 100_000_001, 0, 0, 10),
-            (1, 0, 1, 0, 10),
-            (1, 0, 0, 1, 10),
-            (2, 1_000_000, 100_000_000, 1_000_000, 0),
-            (2, 1_000_000, 100_000_000, 999_999, 22),
-            (2, 1_000_001, 100_000_000, 999_999, 10),
-            (2, MISSING, 0, 1, 10),
-            (2, 0, 0, 0, 10),
-            (3, 10_000, 100_000_000, 0, 0),
-            (3, 10_001, 0, 0, 10),
-            (3, 0, 100_000_001, 0, 10),
-            (3, 0, 0, 1, 10),
-            (4, 0, 0, 0, 10),
+            (0, 0, 0, 0, Some(10)),
+            (1, MISSING, 0, 0, None),
+            (1, 100_000_001, 0, 0, Some(10)),
+            (1, 0, 1, 0, Some(10)),
+            (1, 0, 0, 1, Some(10)),
+            (2, 1_000_000, 100_000_000, 1_000_000, None),
+            (2, 1_000_000, 100_000_000, 999_999, Some(22)),
+            (2, 1_000_001, 100_000_000, 999_999, Some(10)),
+            (2, MISSING, 0, 1, Some(10)),
+            (2, 0, 0, 0, Some(10)),
+            (3, 10_000, 100_000_000, 0, None),
+            (3, 10_001, 0, 0, Some(10)),
+            (3, 0, 100_000_001, 0, Some(10)),
+            (3, 0, 0, 1, Some(10)),
+            (4, 0, 0, 0, Some(10)),
         ];
         for (kind, last, usage, profile_usage, wanted) in table {
             let line = peak(kind, [0, 0, 0, 0, last], usage, profile_usage);
-            assert_eq!(rt; number(line.cause()), wanted);
+            assert_eq!(rt; line.cause().map(Cause::number), wanted);
         }
     }
 
@@ -154,7 +154,7 @@ mod tests {
             (profiled(10_000, 1, 101, 1), 0),
         ];
         for (line, wanted) in table {
-            assert_eq!(rt; line.load().0, wanted);
+            assert_eq!(rt; line.load(), Energy(wanted));
         }
     }
 
@@ -169,7 +169,7 @@ mod tests {
             (peak(4, [1; 5], 0, 0), 0),
         ];
         for (line, wanted) in table {
-            assert_eq!(rt; line.weight().0, wanted);
+            assert_eq!(rt; line.weight(), Power(wanted));
         }
     }
 
@@ -182,31 +182,43 @@ mod tests {
         ];
         let mut list = [Energy(9); 4];
         share(10, 5, &sheet, &mut list).ok().ok_or("refused")?;
-        assert_eq!(rt; [list[0].0, list[1].0, list[2].0, list[3].0], [3, 5, 7, 9]);
+        assert_eq!(rt; list, [Energy(3), Energy(5), Energy(7), Energy(9)]);
         Ok(())
     }
 
     // What sharing answers over lines of load 200,000,000, and what the list's first and last places then hold.
-    fn shared(first: u64, second: u64, lines: usize, places: usize) -> ((u8, u8, usize), u64, u64) {
+    fn shared(
+        first: u64,
+        second: u64,
+        lines: usize,
+        places: usize,
+    ) -> (Option<Numbers>, Energy, Energy) {
         let sheet = [interval(1, 20_000, 100_000_000); 16];
         let mut list = [Energy(9); 16];
-        if lines > 16 || places > 16 {
-            return ((0, 0, 0), 0, 0);
-        }
-        let answer = share(first, second, &sheet[0..lines], &mut list[0..places]);
-        (told(answer.err()), list[0].0, list[15].0)
+        let answer = share(
+            first,
+            second,
+            &sheet[..lines.min(16)],
+            &mut list[..places.min(16)],
+        );
+        (answer.err().map(Refusal::numbers), list[0], list[15])
     }
 
     #[test]
     fn sharing_refuses(rt: HostRuntime) {
-        assert_eq!(rt; shared(3_000_000_001, 0, 16, 16), ((10, 2, 0), 9, 9));
-        assert_eq!(rt; shared(0, 3_000_000_001, 16, 15), ((10, 2, 0), 9, 9));
-        assert_eq!(rt; shared(3_000_000_000, 0, 16, 15), ((20, 2, 0), 9, 9));
-        assert_eq!(rt; shared(3_000_000_000, 0, 16, 16), ((23, 3, 0), 9, 9));
-        assert_eq!(rt;
-            shared(3_000_000_000, 0, 15, 15),
-            ((0, 0, 0), 200_000_000, 9)
-        );
+        let table = [
+            (3_000_000_001, 0, 16, 16, Some((10, 2, 0)), 9),
+            (0, 3_000_000_001, 16, 15, Some((10, 2, 0)), 9),
+            (3_000_000_000, 0, 16, 15, Some((20, 2, 0)), 9),
+            (3_000_000_000, 0, 16, 16, Some((23, 3, 0)), 9),
+            (3_000_000_000, 0, 15, 15, None, 200_000_000),
+        ];
+        for (first, second, lines, places, wanted, received) in table {
+            assert_eq!(rt;
+                shared(first, second, lines, places),
+                (wanted, Energy(received), Energy(9))
+            );
+        }
     }
 
     // Of 3, 5 and 7: to the last supplier and the first, and to numbers that are nobody's.
@@ -225,24 +237,28 @@ mod tests {
             .ok()
             .ok_or("refused")?;
         assert_eq!(rt; (sums[0], sums[1], sums[31]), (0, 7, 0));
-        assert_eq!(rt; told(obligations(10, 5, &sheet, &[1, 1]).err()), (20, 2, 0));
+        assert_eq!(rt;
+            obligations(10, 5, &sheet, &[1, 1])
+                .err()
+                .map(Refusal::numbers),
+            Some((20, 2, 0))
+        );
         Ok(())
     }
 
     #[test]
     fn percentages(rt: HostRuntime) {
-        assert_eq!(rt; told(Percent::new(100).err()), (0, 0, 0));
-        assert_eq!(rt; told(Percent::new(101).err()), (10, 2, 0));
+        assert_eq!(rt; Percent::new(100).err().map(Refusal::numbers), None);
+        assert_eq!(rt;
+            Percent::new(101).err().map(Refusal::numbers),
+            Some((10, 2, 0))
+        );
     }
 
     #[test]
     fn parts(rt: HostRuntime) -> Result<(), Fail> {
-        let Ok(five) = Percent::new(5) else {
-            return Err(Fail::new("refused"));
-        };
-        let Ok(all) = Percent::new(100) else {
-            return Err(Fail::new("refused"));
-        };
+        let five = Percent::new(5).ok().ok_or("refused")?;
+        let all = Percent::new(100).ok().ok_or("refused")?;
         assert_eq!(rt; five.parts(-49, 1, 1), (-2, -47));
         assert_eq!(rt; five.parts(0, 1, 1), (0, 0));
         assert_eq!(rt; five.parts(3_000_000_001, 1, 1), (0, 3_000_000_001));
@@ -262,22 +278,37 @@ mod tests {
     }
 
     #[test]
-    fn totals_refused(rt: HostRuntime) -> Result<(), Fail> {
-        let Ok(none) = Percent::new(0) else {
-            return Err(Fail::new("refused"));
-        };
+    fn what_can_be_parted(rt: HostRuntime) {
         let table = [
-            (3_000_000_000, 1, 1, (0, 0, 0)),
-            (3_000_000_001, 1, 1, (10, 2, 0)),
-            (0, 3_000_000_000, 1, (23, 3, 0)),
-            (1, 0, 0, (24, 3, 0)),
-            (0, 0, 0, (0, 0, 0)),
-            (5, 5, 3, (0, 0, 0)),
-            (4, 5, 3, (25, 3, 0)),
+            (-3_000_000_000, 1, 2_999_999_999, true),
+            (3_000_000_001, 0, 0, false),
+            (-3_000_000_001, 0, 0, false),
+            (0, 1, 3_000_000_000, false),
+            (0, 3_000_000_001, 0, false),
+            (i64::MIN, u64::MAX, u64::MAX, false),
+        ];
+        for (unaccounted, interval, profiled, wanted) in table {
+            assert_eq!(rt; can_part(unaccounted, interval, profiled), wanted);
+        }
+    }
+
+    #[test]
+    fn totals_refused(rt: HostRuntime) -> Result<(), Fail> {
+        let none = Percent::new(0).ok().ok_or("refused")?;
+        let table = [
+            (3_000_000_000, 1, 1, None),
+            (3_000_000_001, 1, 1, Some((10, 2, 0))),
+            (0, 3_000_000_000, 1, Some((23, 3, 0))),
+            (1, 0, 0, Some((24, 3, 0))),
+            (0, 0, 0, None),
+            (5, 5, 3, None),
+            (4, 5, 3, Some((25, 3, 0))),
         ];
         for (zone, interval, profiled, wanted) in table {
             assert_eq!(rt;
-                told(group_totals(&none, zone, interval, profiled).err()),
+                group_totals(&none, zone, interval, profiled)
+                    .err()
+                    .map(Refusal::numbers),
                 wanted
             );
         }

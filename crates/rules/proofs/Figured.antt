@@ -1,14 +1,16 @@
 -- The figures of a peak line: that they fit, and the sum and number of the present ones. Assumes nothing.
-use Rattle.std.proofs.Common.{◌≡◌, cond, Some, None, Option, Ok, Err, refl, ℕ, zero, suc, ◌+◌, ◌*◌, ◌/◌, ◌<◌, ◌≤◌, Bool, true, false, ◌&&◌, eqb, leb, List, [], ◌∷◌, ◌++◌, length, get_or, take, drop, sum_by, filter, sym, ap, ◌∙◌, le_of_suc-le-suc, not-suc-le-zero, div-le_self, arith}
+use Rattle.std.proofs.Common.{◌≡◌, cond, Some, None, Option, Ok, Err, Result, refl, ℕ, ◌+◌, ◌*◌, ◌<◌, ◌≤◌, Bool, true, false, ◌&&◌, eqb, leb, List, [], ◌∷◌, ◌++◌, length, get_or, take, drop, sum_by, filter, sym, ap, ◌∙◌, div-le_self, arith}
 use Rattle.std.proofs.lemmas.Nat.{mul-le}
 use Rattle.std.proofs.lemmas.List.Elements.{filter_more}
-use Rattle.std.proofs.lemmas.List.{at_drop_more, length-append, append-nil, take_all}
+use Rattle.std.proofs.lemmas.List.{at_drop_more, length-append, append-nil}
 use Rattle.std.proofs.lemmas.List.Sums.{sum_by_push}
-use Rattle.std.proofs.lemmas.Bool.{and_from, cond_both, cond-true, cond-false, and_parts, and_left}
+use Rattle.std.proofs.lemmas.Bool.{and_from, cond_both, cond-true, cond-false, and_parts}
 use Rattle.std.proofs.lemmas.Bool.Decides.{nat_tests}
+use Rattle.std.specs.Result.{IsErrAnd, result_err, result_unwrap_or}
+use Rattle.std.proofs.lemmas.Result.{err_from_is_err_and}
 use Rattle.rules.specs.Ranges.{is_account, between, missing, is_loss_factor, is_usage, is_profile_usage, is_reading, is_coincidence}
 use Rattle.rules.specs.Loads.{rounded}
-use Rattle.rules.specs.Peaks.{Basis, Readings, Profile, Demand, is_present, weight_on, in_range_on, usage_fits_on, further_fits, figure_fits, all_fit, figure_load, present, average_load}
+use Rattle.rules.specs.Peaks.{Basis, Readings, Profile, Demand, is_present, cause_on, weight_on, in_range_on, usage_fits_on, further_fits, figure_fits, all_fit, figure_load, average_load}
 use Rattle.rules.specs.declared.peaks.Basis.{Basis as BasisT}
 use Rattle.rules.specs.declared.peaks.Basis.TheVariants as kept
 use Rattle.rules.specs.Bases.{bare, load_if_fits, if_further_fits, average_if_fits, ratio_on}
@@ -18,21 +20,12 @@ use Rattle.refusals.specs.declared.Cause.{Cause}
 use Rattle.refusals.specs.declared.Cause.TheVariants.{OutOfRange, UsageTooHigh}
 use Rattle.rules.proofs.Products.{greatest, loss_small, usage_small, profile_small, product_small}
 
--- a figure among those that all fit
-pub fits_at : (b : Basis) (xs : List ℕ) (i : ℕ) → i < length xs → all_fit b xs ≡ true → figure_fits b (get_or xs i 0) ≡ true
-fits_at b [] i h all = absurd (not-suc-le-zero h)
-fits_at b (x ∷ xs) zero h all = (and_parts (figure_fits b x) (all_fit b xs) all).0
-fits_at b (x ∷ xs) (suc i) h all = fits_at b xs i (le_of_suc-le-suc h) (and_parts (figure_fits b x) (all_fit b xs) all).1
-
 module _ (b : Basis) (xs : List ℕ) (i : ℕ) (h : i < length xs) where
   here : all_fit b (drop i xs) ≡ (figure_fits b (get_or xs i 0) && all_fit b (drop (i + 1) xs))
   here = at_drop_more (all_fit b) xs i 0 h
 
   pub fit_more : figure_fits b (get_or xs i 0) ≡ true → all_fit b (drop (i + 1) xs) ≡ all_fit b (drop i xs)
   fit_more e = sym (here ∙ ap (λ t. t && all_fit b (drop (i + 1) xs)) e)
-
-  pub fit_ends : figure_fits b (get_or xs i 0) ≡ false → all_fit b (drop i xs) ≡ false
-  fit_ends e = here ∙ and_left (figure_fits b (get_or xs i 0)) (all_fit b (drop (i + 1) xs)) e
 
 -- one figure more, that passes or not
 module _ (p : ℕ → Bool) (xs : List ℕ) (i : ℕ) (h : i < length xs) where
@@ -68,15 +61,6 @@ load_small loss (Profile billed usage) x l f e =
     omega (arith, rounded-small (x * billed * loss) (usage * 10000), product_small x billed loss 1000000 100000000 20000 (profile_small x e) u (loss_small loss l))
 load_small loss (Demand demand) x l f e =
     omega (arith, rounded-small (demand * x * loss) 100000000, product_small demand x loss 100000000 10000 20000 (usage_small demand f) (coincidence_small x e) (loss_small loss l))
-
--- when all figures are seen, their sum and their number give the average
-pub averaged : (loss : ℕ) (b : Basis) (xs : List ℕ) (i t n : ℕ) → length xs ≤ i → t ≡ sum_by (figure_load loss b) (present b (take i xs)) →
-    n ≡ length (present b (take i xs)) → t / n ≡ average_load loss b xs
-averaged loss b xs i t n h p q =
-    let all : take i xs ≡ xs = take_all i xs h in
-    let sum_is : t ≡ sum_by (figure_load loss b) (present b xs) = p ∙ ap (λ ys. sum_by (figure_load loss b) (present b ys)) all in
-    let number_is : n ≡ length (present b xs) = q ∙ ap (λ ys. length (present b ys)) all in
-    ap (λ u. u / n) sum_is ∙ ap (λ u. sum_by (figure_load loss b) (present b xs) / u) number_is
 
 -- what an answer tells that a test decides
 passed : {X : Type 0} (t : Bool) (x y : X) (e : Cause) → Ok x ≡ cond t (Ok y) (Err e) → (t ≡ true) × (x ≡ y)
@@ -118,3 +102,29 @@ weighs l (Some d) b account loss n p q r s t =
     let ratio = passed (usage_fits_on b) tt tt UsageTooHigh t in
     let yes : (in_range_on l d && usage_fits_on d) ≡ true = grind arith in
     average.1 ∙ ap (λ f. average_load f b l.figures) factor.1 ∙ ap (λ y. average_load l.loss_factor y l.figures) further.1 ∙ sym (cond-true _ _ _ yes)
+
+-- what a refusal tells that a test decides
+failed : {X : Type 0} (t : Bool) (y : X) (e d : Cause) → Err e ≡ cond t (Ok y) (Err d) → (t ≡ false) × (e ≡ d)
+failed true y e d h = cc
+failed false y e d h = (refl, cc)
+
+-- a line that is out of range on what its kind makes of it
+out_of_range : (l : PeakLine) (o : Option Basis) (r : Result ℕ Cause) → r ≡ Err OutOfRange → ((b : Basis) → o ≡ Some b → in_range_on l b ≡ false) →
+    (result_err r ≡ cause_on l o) × (result_unwrap_or r 0 ≡ weight_on l o)
+out_of_range l None r e out = rw e (refl, refl)
+out_of_range l (Some b) r e out = rw (e, out b refl) (refl, refl)
+
+pub loss_out_of_range : (l : PeakLine) (o : Option Basis) (r : Result ℕ Cause) (e : Cause) → Err e ≡ in_bounds 10000 20000 l.loss_factor → IsErrAnd r (λ x. x ≡ e) →
+    (result_err r ≡ cause_on l o) × (result_unwrap_or r 0 ≡ weight_on l o)
+loss_out_of_range l o r e h is =
+    let no = failed (is_loss_factor l.loss_factor) l.loss_factor e OutOfRange h in
+    let p = err_from_is_err_and r is in
+    out_of_range l o r (p.1 ∙ ap Err (p.2 ∙ no.1)) (λ b q. grind (arith, no.0))
+
+pub basis_out_of_range : (l : PeakLine) (o : Option Basis) (r : Result ℕ Cause) (e : Cause) → Err e ≡ if_further_fits o → IsErrAnd r (λ x. x ≡ e) →
+    (result_err r ≡ cause_on l o) × (result_unwrap_or r 0 ≡ weight_on l o)
+basis_out_of_range l None r e h is = let p = err_from_is_err_and r is in let d : e ≡ OutOfRange = cc in out_of_range l None r (p.1 ∙ ap Err (p.2 ∙ d)) (λ b q. cc)
+basis_out_of_range l (Some b) r e h is =
+    let no = failed (further_fits b) b e OutOfRange h in
+    let p = err_from_is_err_and r is in
+    out_of_range l (Some b) r (p.1 ∙ ap Err (p.2 ∙ no.1)) (λ d q. let same : b ≡ d = cc in grind (arith, no.0))

@@ -1,14 +1,14 @@
 -- What the laws of an arrangement give the totals of the groups. Assumes nothing.
 use Rattle.std.proofs.Common.{◌≡◌, ℕ, ◌+◌, ◌≤◌, ◌||◌, ℤ, pos, negsuc, ◌+ℤ◌, nat_abs, IfOk, Err, Result, ap, ◌∙◌, arith, w64, to_z, of_z}
 use Rattle.std.proofs.lemmas.Int.{ints}
-use Rattle.std.proofs.lemmas.Bool.{cond-true, cond_both, le-leb}
+use Rattle.std.proofs.lemmas.Bool.{cond_both}
 use Rattle.refusals.specs.declared.Refusal.{Refusal}
 use Rattle.refusals.specs.declared.Cause.TheVariants.{UnloadedGroup}
 use Rattle.refusals.specs.declared.Layer.TheVariants.{Sharing}
 use Rattle.refusals.specs.Numbers.{refusal}
 use Rattle.rules.specs.Ranges.{most}
 use Rattle.rules.specs.Parts.{unaccounted, Sided}
-use Rattle.rules.specs.Totals.{unloaded, naturals, lawful_totals, with_parts, group_totals}
+use Rattle.rules.specs.Totals.{unloaded, naturals, lawful_totals, with_parts}
 use Rattle.rules.specs.Portions.{parts-small}
 
 -- a small number is the same in 64 bits
@@ -26,25 +26,13 @@ module _ (u : ℤ) (r m : ℤ × ℤ) (is : r ≡ m) (whole : m.0 +ℤ m.1 ≡ u
   second_is : to_z w64 (of_z w64 r.1) ≡ m.1
   second_is = rw is (through m.1 (omega (arith, small-parts.1)))
 
-  pub first_small : nat_abs (to_z w64 (of_z w64 r.0)) ≤ most
-  first_small = rw first_is small-parts.0
-
   pub second_small : nat_abs (to_z w64 (of_z w64 r.1)) ≤ most
   second_small = rw second_is small-parts.1
 
-  -- a load w with a part x
-  total_is : (w : ℕ) (x s y : ℤ) → w ≤ most → nat_abs x ≤ most → s ≡ pos w +ℤ y → y ≡ x → to_z w64 (of_z w64 s) ≡ pos w +ℤ x
-  total_is w x s y p q e f =
-      let s-is : s ≡ pos w +ℤ x = e ∙ ap (λ z. pos w +ℤ z) f in
-      rw s-is (through (pos w +ℤ x) (omega (arith, ints)))
-
   -- the totals s and t that the code makes are those of the rule
-  pub totalled : (wi wp : ℕ) (s t : ℤ) (res : Result (ℕ × ℕ) Refusal) → wi ≤ most → wp ≤ most →
-      s ≡ pos wi +ℤ to_z w64 (of_z w64 r.0) → t ≡ pos wp +ℤ to_z w64 (of_z w64 r.1) →
-      res ≡ lawful_totals wi wp (to_z w64 (of_z w64 s)) (to_z w64 (of_z w64 t)) → res ≡ with_parts wi wp m
-  totalled wi wp s t res p q e f told =
-      told ∙ ap (λ z. lawful_totals wi wp z (to_z w64 (of_z w64 t))) (total_is wi m.0 s (to_z w64 (of_z w64 r.0)) p small-parts.0 e first_is)
-      ∙ ap (lawful_totals wi wp (pos wi +ℤ m.0)) (total_is wp m.1 t (to_z w64 (of_z w64 r.1)) q small-parts.1 f second_is)
+  pub totalled : (wi wp : ℕ) (s t : ℤ) (res : Result (ℕ × ℕ) Refusal) → s ≡ pos wi +ℤ to_z w64 (of_z w64 r.0) → t ≡ pos wp +ℤ to_z w64 (of_z w64 r.1) → res ≡ lawful_totals wi wp s t → res ≡ with_parts wi wp m
+  totalled wi wp s t res e f told =
+      told ∙ ap (λ z. lawful_totals wi wp z t) (e ∙ ap (λ z. pos wi +ℤ z) first_is) ∙ ap (lawful_totals wi wp (pos wi +ℤ m.0)) (f ∙ ap (λ z. pos wp +ℤ z) second_is)
 
 naturals-whole : (zone : ℕ) (s t : ℤ) → s +ℤ t ≡ pos zone → IfOk (naturals s t) (λ n. n.0 + n.1 ≡ zone)
 naturals-whole zone (pos a) (pos b) e = omega (arith, ints)
@@ -57,7 +45,3 @@ totals-whole zone wi wp p e =
     let s = pos wi +ℤ p.0 in
     let t = pos wp +ℤ p.1 in
     cond_both (unloaded wi s || unloaded wp t) (Err (refusal UnloadedGroup Sharing 0)) (naturals s t) (λ r. IfOk r (λ n. n.0 + n.1 ≡ zone)) (λ b. tt) (λ b. naturals-whole zone s t (omega (arith, ints)))
-
--- what is totalled where neither the zone load nor the loads are too great
-pub in_bounds : (m : ℤ → ℕ → ℕ → ℤ × ℤ) (zone wi wp : ℕ) → zone ≤ most → wi + wp ≤ most → group_totals m zone wi wp ≡ with_parts wi wp (m (unaccounted zone wi wp) wi wp)
-in_bounds m zone wi wp p q = cond-true _ _ _ (le-leb zone most p) ∙ cond-true _ _ _ (le-leb (wi + wp) most q)

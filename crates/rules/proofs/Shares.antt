@@ -1,9 +1,8 @@
 -- The laws of sharing. Assumes nothing.
-use Rattle.std.proofs.Common.{◌≡◌, ℕ, zero, suc, ◌+◌, ◌-◌, ◌*◌, ◌/◌, ◌<◌, ◌≤◌, ◌⊎◌, List, [], ◌∷◌, ◌++◌, length, get_or, sum, sym, refl, ap, ◌∙◌, inl, inr, le_of_suc-le-suc, not-suc-le-zero, add-zero, mul-zero, zero-add, mul-add, div-le_self, div-mul-le_self, mul-div_cancel, arith}
+use Rattle.std.proofs.Common.{◌≡◌, ℕ, zero, suc, ◌+◌, ◌-◌, ◌*◌, ◌/◌, ◌<◌, ◌≤◌, ◌⊎◌, List, [], ◌∷◌, length, get_or, sum, sym, refl, ap, ◌∙◌, inl, inr, le_of_suc-le-suc, not-suc-le-zero, add-zero, mul-zero, zero-add, mul-add, div-mul-le_self, mul-div_cancel, arith}
 use native.Mathlib.Nat.{zero-div, div-zero, lt-div-mul-add, mul-sub}
 use Rattle.std.proofs.lemmas.List.Sums.{sum_by-cons}
-use Rattle.std.proofs.lemmas.Nat.{le-div, mul-le}
-use Rattle.rules.specs.Ranges.{most}
+use Rattle.std.proofs.lemmas.Nat.{le-div}
 use Rattle.rules.specs.Shares.{up_to, shares_after, shares, plus, finals, Near, SharesAddUp, SharesAreNear, OwnGroupOnly, FinalsAddUp, OneGroup, SharingLaws}
 
 -- more weight, no smaller part
@@ -26,9 +25,6 @@ up_to_le g (suc v) c h = within g (suc v) c (omega arith) h
     within g w c p h =
         let all : up_to g w (c + (w - c)) ≡ g = ap (up_to g w) (omega arith) ∙ mul-div_cancel g p in
         omega (arith, up_to_rises g w c (w - c), all)
-
-pub up_to-small : (g w c : ℕ) → g ≤ most → c ≤ most → up_to g w c ≤ most * most
-up_to-small g w c p q = omega (arith, div-le_self (g * c) w, mul-le g c most most p q)
 
 pub sum_cons : (x : ℕ) (xs : List ℕ) → sum (x ∷ xs) ≡ x + sum xs
 sum_cons x xs = sum_by-cons (λ y. y) x xs
@@ -108,12 +104,6 @@ length-plus [] ys e = refl
 length-plus (x ∷ xs) [] e = long_empty (length xs) e
 length-plus (x ∷ xs) (y ∷ ys) e = ap suc (length-plus xs ys (omega arith))
 
-pub plus_push : (xs ys : List ℕ) (a b : ℕ) → length xs ≡ length ys → plus (xs ++ a ∷ []) (ys ++ b ∷ []) ≡ plus xs ys ++ (a + b) ∷ []
-plus_push [] [] a b e = refl
-plus_push [] (y ∷ ys) a b e = empty_long (length ys) e
-plus_push (x ∷ xs) [] a b e = long_empty (length xs) e
-plus_push (x ∷ xs) (y ∷ ys) a b e = ap (λ t. (x + y) ∷ t) (plus_push xs ys a b (omega arith))
-
 pub sum-plus : (xs ys : List ℕ) → length xs ≡ length ys → sum (plus xs ys) ≡ sum xs + sum ys
 sum-plus [] [] e = refl
 sum-plus [] (y ∷ ys) e = empty_long (length ys) e
@@ -154,10 +144,3 @@ one_group g h ws vs same none = rw none (plus_none h 0 (shares g ws) vs (length-
 
 pub sharing_laws : SharingLaws
 sharing_laws = record { adds_up = shares_add_up; near = shares_are_near; own_group = own_group_only; finals = finals_add_up; one_group = one_group }
-
--- one line more
-pub shares_push : (g w c : ℕ) (ws : List ℕ) (x : ℕ) → shares_after g w c (ws ++ x ∷ []) ≡ shares_after g w c ws ++ (up_to g w (c + sum ws + x) - up_to g w (c + sum ws)) ∷ []
-shares_push g w c [] x = rw add-zero
-shares_push g w c (y ∷ ys) x =
-    let e : c + y + sum ys ≡ c + sum (y ∷ ys) = omega (arith, sum_cons y ys) in
-    ap (λ t. (up_to g w (c + y) - up_to g w c) ∷ t) (shares_push g w (c + y) ys x ∙ ap (λ n. shares_after g w (c + y) ys ++ (up_to g w (n + x) - up_to g w n) ∷ []) e)

@@ -1,7 +1,7 @@
 -- When the weights of a sheet, and with them its sharing, are refused. Assumes nothing.
-use Rattle.std.proofs.Common.{◌≡◌, ℕ, ◌+◌, ◌<◌, ◌≤◌, true, cond, ◌&&◌, leb, ◌⊎◌, List, ◌++◌, map, length, drop, Ok, Err, sum_by, sum, Result, sym, refl, ap, ◌∙◌, inl, inr, arith}
-use Rattle.std.proofs.lemmas.List.Sums.{sum-map}
-use Rattle.std.proofs.lemmas.Bool.{cond-true, cond-false, cond_both, le-leb, lt-leb, leb-true, and_parts, and_from, and_left, and_right}
+use Rattle.std.proofs.Common.{◌≡◌, ℕ, ◌+◌, ◌<◌, ◌≤◌, cond, ◌&&◌, leb, List, ◌++◌, map, length, get_or, take, drop, Ok, Err, sum_by, sum, Result, sym, refl, ap, arith}
+use Rattle.std.proofs.lemmas.List.Sums.{sum-map, sum_by_more, sum_by-take-le}
+use Rattle.std.proofs.lemmas.Bool.{cond-false, cond_both, lt-leb, leb-true, and_parts}
 use Rattle.refusals.specs.declared.Refusal.{Refusal}
 use Rattle.refusals.specs.declared.Cause.TheVariants.{OutOfRange, ListTooShort, LoadsTooHigh}
 use Rattle.refusals.specs.declared.Layer.TheVariants.{Sheet, Sharing}
@@ -14,13 +14,12 @@ module _ {L : Type 0} (f s : L → ℕ) (ls : List L) where
   both_sums : sum (map f ls) + sum (map s ls) ≡ sum_by f ls + sum_by s ls
   both_sums = omega (arith, sum-map f ls, sum-map s ls)
 
-  pub weighed_light : (a b : ℕ) → a ≡ sum_by f ls → b ≡ sum_by s ls → a + b ≤ most → Ok (a, b) ≡ weighed (map f ls) (map s ls)
-  weighed_light a b p q h =
-      let yes = le-leb (sum (map f ls) + sum (map s ls)) most (omega (arith, both_sums)) in
-      ap (λ n. Ok (n, b)) (p ∙ sym (sum-map f ls)) ∙ ap (λ n. Ok (sum (map f ls), n)) (q ∙ sym (sum-map s ls)) ∙ sym (cond-true _ _ _ yes)
-
   pub weighed_heavy : most < sum_by f ls + sum_by s ls → Err (refusal LoadsTooHigh Sharing 0) ≡ weighed (map f ls) (map s ls)
   weighed_heavy h = sym (cond-false _ _ _ (lt-leb (sum (map f ls) + sum (map s ls)) most (omega (arith, both_sums))))
+
+-- the weight of the next line, with those before, is within the whole
+pub weight_within : {L : Type 0} (f : L → ℕ) (ls : List L) (i x : ℕ) (l : L) → i < length ls → l ≡ get_or ls i l → x ≡ f l → sum_by f (take i ls) + x ≤ sum_by f ls
+weight_within f ls i x l lt at weight = omega (arith, ap f at, sum_by_more f ls i l lt, sum_by-take-le f ls (i + 1))
 
 -- what an answer tells
 pub weights_are : (ws vs : List ℕ) (t : ℕ × ℕ) → Ok t ≡ weighed ws vs → (t.0 ≡ sum ws) × (t.1 ≡ sum vs) × (sum ws + sum vs ≤ most)
@@ -32,20 +31,6 @@ weights_are ws vs t =
 
 -- what sharing answers
 module _ (g h : ℕ) (ws vs : List ℕ) (room : ℕ) where
-  pub share_range : (most < g) ⊎ (most < h) → sharing g h ws vs room ≡ Err (refusal OutOfRange Sheet 0)
-  share_range (inl p) = cond-false _ _ _ (and_left (leb g most) (leb h most) (lt-leb g most p))
-  share_range (inr q) = cond-false _ _ _ (and_right (leb g most) (leb h most) (lt-leb h most q))
-
-  module _ (p : g ≤ most) (q : h ≤ most) where
-    in_range_lem : (leb g most && leb h most) ≡ true
-    in_range_lem = and_from (leb g most) (leb h most) (le-leb g most p) (le-leb h most q)
-
-    pub share_short : room < length ws → sharing g h ws vs room ≡ Err (refusal ListTooShort Sheet 0)
-    share_short e = cond-true _ _ _ in_range_lem ∙ cond-false _ _ _ (lt-leb (length ws) room e)
-
-    pub share_weighs : length ws ≤ room → sharing g h ws vs room ≡ if_weighed (weighed ws vs)
-    share_weighs e = cond-true _ _ _ in_range_lem ∙ cond-true _ _ _ (le-leb (length ws) room e)
-
   weights_light : if_weighed (weighed ws vs) ≡ Ok tt → sum ws + sum vs ≤ most
   weights_light =
       cond_both (leb (sum ws + sum vs) most) (Ok (sum ws, sum vs)) (Err (refusal LoadsTooHigh Sharing 0)) (λ r. if_weighed r ≡ Ok tt → sum ws + sum vs ≤ most)
@@ -73,8 +58,5 @@ module _ {X : Type 0} (x : X) where
 
 -- what it leaves in the list
 module _ {X : Type 0} (amount : ℕ → X) (g h : ℕ) (ws vs : List ℕ) (list : List X) where
-  pub left_alone : (e : Refusal) → sharing g h ws vs (length list) ≡ Err e → list ≡ shared amount g h ws vs list
-  left_alone e refused = sym (ap (λ r. if_shared r (map amount (finals g h ws vs) ++ drop (length ws) list) list) refused)
-
   pub served : sharing g h ws vs (length list) ≡ Ok tt → map amount (finals g h ws vs) ++ drop (length ws) list ≡ shared amount g h ws vs list
   served ok = sym (ap (λ r. if_shared r (map amount (finals g h ws vs) ++ drop (length ws) list) list) ok)

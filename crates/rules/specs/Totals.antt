@@ -11,6 +11,10 @@ use Rattle.rules.specs.Parts.{unaccounted}
 abbrev pub unloaded : ℕ → ℤ → Bool
 unloaded w total = w == 0 && nat_le 1 (unsigned_abs total)
 
+abbrev pub natural : ℤ → Result ℕ Refusal
+natural (pos a) = Ok a
+natural (negsuc a) = Err (refusal NegativeTotal Sharing 0)
+
 abbrev pub naturals : ℤ → ℤ → Result (ℕ × ℕ) Refusal
 naturals (pos a) (pos b) = Ok (a, b)
 naturals (pos a) (negsuc b) = Err (refusal NegativeTotal Sharing 0)

@@ -7,7 +7,7 @@ ghost use Rattle.rules.specs.Portions.{portion-between, parted-sided};
 ghost use Rattle.std.proofs.Common.{rules, arith};
 
 use crate::percent::Percent;
-use crate::sharing::MOST;
+use crate::sharing::{MOST, within_most};
 use refusals::{Cause, Layer, Refusal};
 
 /// A way to part unaccounted energy. Whoever makes one has to show the laws.
@@ -25,10 +25,11 @@ pub trait Arrangement {
     ghost bounded: { (a : Self) (u : ℤ) (wi wp : ℕ) → can_part u wi wp ≡ false → meaning a u wi wp ≡ (pos 0, u) };
 }
 
-fn can_part(u: i64, wi: u64, wp: u64) -> bool
-    ensures { result ≡ can_part u wi wp }
+/// Whether so much unaccounted energy can be parted at these loads: else all of it goes to the profiled lines.
+pub fn can_part(unaccounted: i64, interval: u64, profiled: u64) -> bool
+    ensures { result ≡ can_part unaccounted interval profiled }
 {
-    wi <= MOST && wp <= MOST - wi && u.unsigned_abs() <= MOST
+    within_most(interval, profiled) && unaccounted.unsigned_abs() <= MOST
 }
 
 /// u × a / b, rounded toward zero.

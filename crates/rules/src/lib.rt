@@ -16,7 +16,7 @@ pub mod totals;
 pub mod units;
 pub mod worked;
 
-pub use arrangements::{Arrangement, ProRata};
+pub use arrangements::{Arrangement, ProRata, can_part};
 pub use lines::Line;
 pub use obliging::obligations;
 pub use peaks::PeakLine;

@@ -43,23 +43,24 @@ impl Line {
         ensures cause { result_err result ≡ cause_of self.now }
         ensures load { result_unwrap_or result 0 ≡ load_of self.now }
     {
-        Account::new(self.account())?;
         match *self {
             Line::Interval {
+                account,
                 loss_factor,
                 reading,
-                ..
             } => {
+                Account::new(account)?;
                 let loss = LossFactor::new(loss_factor)?;
                 Ok(Usage::read(reading)?.map_or(0, |reading| interval_load(loss, reading)))
             }
             Line::Profiled {
+                account,
                 loss_factor,
                 profile_load,
                 billed_usage,
                 profile_usage,
-                ..
             } => {
+                Account::new(account)?;
                 let loss = LossFactor::new(loss_factor)?;
                 let profile = ProfileLoad::new(profile_load)?;
                 let billed = Usage::new(billed_usage)?;

@@ -7,6 +7,7 @@ use crate::sharing::Weighted;
 use refusals::Refusal;
 
 /// Adds a share to its supplier's sum.
+// Suppliers come in as plain numbers, 0 for nobody.
 fn add_to(sums: &mut [u64; 32], supplier: u8, share: u64)
     requires { slice_index sums.old (supplier - 1) + share < 2 ^ 64 }
     ensures { sums.new ≡ added sums.old supplier share }

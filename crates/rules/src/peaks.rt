@@ -16,6 +16,7 @@ pub struct PeakLine {
     pub account: u32,
     pub loss_factor: u32,
     /// 1: readings; 2: profile loads; 3: coincidence factors.
+    // A number, since another kind must be refused and not be unsayable.
     pub kind: u32,
     /// Readings, profile loads or coincidence factors, by kind.
     pub figures: [u32; 5],
@@ -34,6 +35,7 @@ enum Basis {
 }
 
 impl Basis {
+    /// Refused if there is no such kind, or if a further number is not in range.
     fn by_kind(kind: u32, n: u32, m: u32) -> Result<Basis, Cause>
         ensures { basis_in result ≡ if_further_fits (basis_by kind n m) }
     {

@@ -5,6 +5,7 @@ ghost use Rattle.rules.specs.Ranges.{between, is_account, ratio};
 use refusals::Cause;
 
 /// The reading that stands for one that is missing.
+// Figures come in as plain numbers, and those out of range are refused: so this is a number too.
 pub const MISSING: u32 = 4_294_967_295;
 
 /// A figure from LOW to HIGH.

@@ -1,5 +1,6 @@
 //! Sharing totals over the lines of a sheet by their weights.
-ghost use Rattle.std.specs.Prelude.{◌≡◌, ℕ, map, length};
+ghost use Rattle.std.specs.Prelude.{◌≡◌, ℕ, ◌+◌, nat_le, map, length};
+ghost use Rattle.rules.specs.Ranges.{most};
 ghost use Rattle.rules.specs.Shares.{weighed, sharing, shared, SharingLaws};
 
 use crate::line_shares::Shares;
@@ -21,12 +22,20 @@ pub trait Weighted {
         ensures { result ≡ (in_first self.now, in_second self.now) };
 
     /// So many units.
+    // Not `From<u64>` on the unit: here the clauses name its value, and there only a relation.
     fn amount(n: u64) -> Self::Unit
         ensures { result ≡ amounts n };
 }
 
 /// No zone load, allocation or sum of loads is above this.
 pub const MOST: u64 = 3_000_000_000;
+
+/// Whether both loads together are at most that.
+pub(crate) fn within_most(first: u64, second: u64) -> bool
+    ensures { result ≡ nat_le (first + second) most }
+{
+    first <= MOST && second <= MOST - first
+}
 
 /// The weights of the two groups; refused if together they are above the most.
 pub fn weigh<L: Weighted>(lines: &[L]) -> Result<(u64, u64), Refusal>

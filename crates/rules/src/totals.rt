@@ -2,10 +2,10 @@
 ghost use Rattle.std.specs.Prelude.{◌≡◌, ◌+◌, ◌≤◌, pos, ◌+ℤ◌, IfOk, unsigned_abs};
 ghost use Rattle.rules.specs.Ranges.{most};
 ghost use Rattle.rules.specs.Parts.{unaccounted};
-ghost use Rattle.rules.specs.Totals.{unloaded, naturals, lawful_totals, group_totals};
+ghost use Rattle.rules.specs.Totals.{unloaded, natural, lawful_totals, group_totals};
 
 use crate::arrangements::Arrangement;
-use crate::sharing::MOST;
+use crate::sharing::{MOST, within_most};
 use refusals::{Cause, Layer, Refusal};
 
 /// Zone load less the sum of the loads.
@@ -17,40 +17,46 @@ fn unaccounted_for(zone: u64, wi: u64, wp: u64) -> i64
     zone as i64 - (wi + wp) as i64
 }
 
-fn with_part(load: u64, part: i64) -> i64
-    requires { (load ≤ most) × (unsigned_abs part ≤ most) }
-    ensures { result ≡ pos load +ℤ part }
-{
-    load as i64 + part
+/// A group's load, and the total that its lines are to share.
+#[derive(Clone, Copy)]
+struct Group {
+    load: u64,
+    total: i64,
 }
 
-/// A total other than 0 where there is no load to share it by.
-fn is_unloaded(load: u64, total: i64) -> bool
-    ensures { result ≡ unloaded load total }
-{
-    load == 0 && total.unsigned_abs() >= 1
+impl Group {
+    fn new(load: u64, part: i64) -> Group
+        requires { (load ≤ most) × (unsigned_abs part ≤ most) }
+        ensures { (result.load ≡ load) × (result.total ≡ pos load +ℤ part) }
+    {
+        Group {
+            load,
+            total: load as i64 + part,
+        }
+    }
+
+    /// A total other than 0 where there is no load to share it by.
+    fn is_unloaded(self) -> bool
+        ensures { result ≡ unloaded self.load self.total }
+    {
+        self.load == 0 && self.total != 0
+    }
+
+    /// The total, refused below 0.
+    fn natural(self) -> Result<u64, Refusal>
+        ensures { result ≡ natural self.total }
+    {
+        u64::try_from(self.total).map_err(|_| Refusal::new(Cause::NegativeTotal, Layer::Sharing))
+    }
 }
 
-fn both_natural(first: i64, second: i64) -> Result<(u64, u64), Refusal>
-    ensures { result ≡ naturals first second }
+fn lawful_totals(first: Group, second: Group) -> Result<(u64, u64), Refusal>
+    ensures { result ≡ lawful_totals first.load second.load first.total second.total }
 {
-    if first < 0 {
-        return Err(Refusal::new(Cause::NegativeTotal, Layer::Sharing));
+    if first.is_unloaded() || second.is_unloaded() {
+        return Err(Refusal::new(Cause::UnloadedGroup, Layer::Sharing));
     }
-    if second < 0 {
-        return Err(Refusal::new(Cause::NegativeTotal, Layer::Sharing));
-    }
-    Ok((first as u64, second as u64))
-}
-
-fn lawful_totals(wi: u64, wp: u64, first: i64, second: i64) -> Result<(u64, u64), Refusal>
-    ensures { result ≡ lawful_totals wi wp first second }
-{
-    if is_unloaded(wi, first) || is_unloaded(wp, second) {
-        Err(Refusal::new(Cause::UnloadedGroup, Layer::Sharing))
-    } else {
-        both_natural(first, second)
-    }
+    Ok((first.natural()?, second.natural()?))
 }
 
 /// The interval load and the profiled load, each with its part of what is unaccounted for at the zone load.
@@ -66,15 +72,10 @@ pub fn group_totals<A: Arrangement>(
     if zone > MOST {
         return Err(Refusal::new(Cause::OutOfRange, Layer::Sheet));
     }
-    if interval > MOST || profiled > MOST - interval {
+    if !within_most(interval, profiled) {
         return Err(Refusal::new(Cause::LoadsTooHigh, Layer::Sharing));
     }
     let u = unaccounted_for(zone, interval, profiled);
     let (i, p) = arrangement.parts(u, interval, profiled);
-    lawful_totals(
-        interval,
-        profiled,
-        with_part(interval, i),
-        with_part(profiled, p),
-    )
+    lawful_totals(Group::new(interval, i), Group::new(profiled, p))
 }

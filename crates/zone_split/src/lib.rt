@@ -4,7 +4,7 @@
 ghost use Rattle.zone_split.specs.Split.{interval_first};
 ghost use Rattle.std.proofs.Common.{rules};
 
-use rules::{Arrangement, MOST};
+use rules::{Arrangement, can_part};
 
 /// The interval lines bear all of it, as long as they have any load.
 #[derive(Clone, Copy)]
@@ -20,11 +20,7 @@ impl Arrangement for IntervalFirst {
     ghost bounded = { Prim.search rules };
 
     fn parts(&self, unaccounted: i64, interval: u64, profiled: u64) -> (i64, i64) {
-        let borne = interval <= MOST
-            && profiled <= MOST - interval
-            && unaccounted.unsigned_abs() <= MOST
-            && 1 <= interval;
-        if borne {
+        if can_part(unaccounted, interval, profiled) && interval > 0 {
             (unaccounted, 0)
         } else {
             (0, unaccounted)
