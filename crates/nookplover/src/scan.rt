@@ -126,7 +126,7 @@ pub(crate) fn bytes_in(heap: Global, word: &[u8]) -> Result<Option<Vec<u8>>, All
         let Some(byte) = byte_pair(*high, *low) else {
             return Ok(None);
         };
-        bytes.push(byte)?;
+        bytes.push_reserved(byte);
         rest = after;
     }
     Ok(rest.is_empty().then_some(bytes))
