@@ -13,22 +13,22 @@ use std::io::Write;
 
 /// All that calls are made on: the book, the slips of the days that it opened, a roster, an archive, and memory for
 /// listings. It holds slips, so it cannot be let go: it is ended by `close`.
-pub(crate) struct Desk<'a, 'e, A> {
+pub(crate) struct Desk<'a, A> {
     book: Book,
     slips: Slips,
-    roster: &'a mut Roster<'e>,
+    roster: Roster<'a>,
     archive: &'a mut A,
     listing: &'a mut [u8],
 }
 
-impl<'a, 'e, A: Archive> Desk<'a, 'e, A> {
+impl<'a, A: Archive> Desk<'a, A> {
     /// A desk with a new book, in which no day was opened.
     pub(crate) fn new(
         heap: Global,
-        roster: &'a mut Roster<'e>,
+        roster: Roster<'a>,
         archive: &'a mut A,
         listing: &'a mut [u8],
-    ) -> Result<Desk<'a, 'e, A>, AllocError> {
+    ) -> Result<Desk<'a, A>, AllocError> {
         let slips = Slips::new(heap)?;
         Ok(Desk {
             book: Book::new(),
@@ -112,11 +112,9 @@ impl<'a, 'e, A: Archive> Desk<'a, 'e, A> {
             Answer::Listed(length) => {
                 output.write_all(&self.listing[..length.min(self.listing.len())])
             }
-            Answer::Held(rows) => {
-                for i in 0..rows {
-                    if let Some(row) = self.archive.row(i) {
-                        writeln!(output, "{}", Hex(&row.to_bytes()))?;
-                    }
+            Answer::Held(_) => {
+                for row in self.archive.rows() {
+                    writeln!(output, "{}", Hex(&row.to_bytes()))?;
                 }
                 Ok(())
             }

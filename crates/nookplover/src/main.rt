@@ -93,8 +93,7 @@ fn run_on<A: Archive>(rt: &HostRuntime, journal: &Journal, archive: &mut A) -> i
     let mut entries = vec![in heap; nobody; journal.roster as usize]?;
     let mut listing = [0u8; LISTING];
     let mut output = BufWriter::with_capacity(heap, WAITING, rt.stdout())?;
-    let mut roster = Roster::new(&mut entries);
-    let mut desk = Desk::new(heap, &mut roster, archive, &mut listing)?;
+    let mut desk = Desk::new(heap, Roster::new(&mut entries), archive, &mut listing)?;
     let ran = desk.run(&journal.calls, &mut output);
     desk.close();
     ran
