@@ -21,9 +21,6 @@ mod print;
 mod scan;
 mod slips;
 
-// No listing is longer, so a call that gives it more memory is answered the same.
-const LISTING: usize = 720;
-
 // Text that waits is written once there is so much of it.
 const WAITING: usize = 65_536;
 
@@ -91,9 +88,8 @@ fn run_on<A: Archive>(rt: &HostRuntime, journal: &Journal, archive: &mut A) -> i
         supplier: 0,
     };
     let mut entries = vec![in heap; nobody; journal.roster as usize]?;
-    let mut listing = [0u8; LISTING];
     let mut output = BufWriter::with_capacity(heap, WAITING, rt.stdout())?;
-    let mut desk = Desk::new(heap, Roster::new(&mut entries), archive, &mut listing)?;
+    let mut desk = Desk::new(heap, Roster::new(&mut entries), archive)?;
     let ran = desk.run(&journal.calls, &mut output);
     desk.close();
     ran
