@@ -11,31 +11,33 @@ use std::alloc::{AllocError, Global};
 use std::io;
 use std::io::Write;
 
+// No listing is longer, so a call that gives it more memory is answered the same.
+const LISTING: usize = 720;
+
 /// All that calls are made on: the book, the slips of the days that it opened, a roster, an archive, and memory for
 /// listings. It holds slips, so it cannot be let go: it is ended by `close`.
-pub(crate) struct Desk<'a, 'e, A> {
+pub(crate) struct Desk<'a, A> {
     book: Book,
     slips: Slips,
-    roster: &'a mut Roster<'e>,
+    roster: Roster<'a>,
     archive: &'a mut A,
-    listing: &'a mut [u8],
+    listing: [u8; LISTING],
 }
 
-impl<'a, 'e, A: Archive> Desk<'a, 'e, A> {
+impl<'a, A: Archive> Desk<'a, A> {
     /// A desk with a new book, in which no day was opened.
     pub(crate) fn new(
         heap: Global,
-        roster: &'a mut Roster<'e>,
+        roster: Roster<'a>,
         archive: &'a mut A,
-        listing: &'a mut [u8],
-    ) -> Result<Desk<'a, 'e, A>, AllocError> {
+    ) -> Result<Desk<'a, A>, AllocError> {
         let slips = Slips::new(heap)?;
         Ok(Desk {
             book: Book::new(),
             slips,
             roster,
             archive,
-            listing,
+            listing: [0; LISTING],
         })
     }
 
@@ -59,10 +61,10 @@ impl<'a, 'e, A: Archive> Desk<'a, 'e, A> {
 
     // The listing is made in memory of so many bytes as the call gives it.
     fn list(&mut self, day: u32, hour: u32, bytes: Option<u32>) -> Result<Answer, Denial> {
-        let most = self.listing.len();
-        let size = bytes.map_or(most, |size| most.min(size as usize));
-        let memory = &mut self.listing[..size];
-        Ok(Answer::Listed(list(self.archive, day, hour, memory)?))
+        let size = bytes.map_or(LISTING, |size| LISTING.min(size as usize));
+        let archive = &*self.archive;
+        let memory = &mut self.listing[..];
+        Ok(Answer::Listed(list(archive, day, hour, &mut memory[..size])?))
     }
 
     // Makes a call.
@@ -109,14 +111,10 @@ impl<'a, 'e, A: Archive> Desk<'a, 'e, A> {
     // Prints what an answer is about: the listing, or the archive's rows.
     fn print_after<W: Write>(&self, answer: Answer, output: &mut W) -> io::Result<()> {
         match answer {
-            Answer::Listed(length) => {
-                output.write_all(&self.listing[..length.min(self.listing.len())])
-            }
-            Answer::Held(rows) => {
-                for i in 0..rows {
-                    if let Some(row) = self.archive.row(i) {
-                        writeln!(output, "{}", Hex(&row.to_bytes()))?;
-                    }
+            Answer::Listed(length) => { output.write_all(&self.listing[..length.min(LISTING)]) }
+            Answer::Held(_) => {
+                for row in self.archive.rows() {
+                    writeln!(output, "{}", Hex(&row.to_bytes()))?;
                 }
                 Ok(())
             }

@@ -21,9 +21,6 @@ mod print;
 mod scan;
 mod slips;
 
-// A listing may be given so many bytes at most; every listing fits them.
-const LISTING: usize = 1_000_000;
-
 // Text that waits is written once there is so much of it.
 const WAITING: usize = 65_536;
 
@@ -91,10 +88,8 @@ fn run_on<A: Archive>(rt: &HostRuntime, journal: &Journal, archive: &mut A) -> i
         supplier: 0,
     };
     let mut entries = vec![in heap; nobody; journal.roster as usize]?;
-    let mut listing = vec![in heap; 0u8; LISTING]?;
     let mut output = BufWriter::with_capacity(heap, WAITING, rt.stdout())?;
-    let mut roster = Roster::new(&mut entries);
-    let mut desk = Desk::new(heap, &mut roster, archive, &mut listing)?;
+    let mut desk = Desk::new(heap, Roster::new(&mut entries), archive)?;
     let ran = desk.run(&journal.calls, &mut output);
     desk.close();
     ran

@@ -102,12 +102,7 @@ pub(crate) fn number(word: &[u8]) -> Option<u32>
 fn hex_value(b: u8) -> Option<u8>
     ensures { result ≡ hex_value b }
 {
-    match b {
-        b'0'..=b'9' => Some(b - b'0'),
-        b'A'..=b'F' => Some(b - b'A' + 10),
-        b'a'..=b'f' => Some(b - b'a' + 10),
-        _ => None,
-    }
+    char::from(b).to_digit(16).map(|digit| digit as u8)
 }
 
 fn byte_pair(high: u8, low: u8) -> Option<u8>
@@ -126,7 +121,7 @@ pub(crate) fn bytes_in(heap: Global, word: &[u8]) -> Result<Option<Vec<u8>>, All
         let Some(byte) = byte_pair(*high, *low) else {
             return Ok(None);
         };
-        bytes.push(byte)?;
+        bytes.push_reserved(byte);
         rest = after;
     }
     Ok(rest.is_empty().then_some(bytes))

@@ -36,11 +36,10 @@ fn end(open: Option<Open>) {
 
 impl fmt::Display for Open {
     fn fmt<W: fmt::Write>(&self, f: &mut fmt::Formatter<W>) -> fmt::Result {
-        let (day, stage) = match self {
-            Open::Estimate(slip) => (slip.day(), 1),
-            Open::Reconciliation(slip) => (slip.day(), 2),
-        };
-        write!(f, "open at end {day} {stage}")
+        match self {
+            Open::Estimate(slip) => write!(f, "open at end {} 1", slip.day()),
+            Open::Reconciliation(slip) => write!(f, "open at end {} 2", slip.day()),
+        }
     }
 }
 
