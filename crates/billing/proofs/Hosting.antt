@@ -1,12 +1,11 @@
 -- The host's answer, memory and output, from what take-in and the listing promise.
-use Rattle.std.proofs.Common.{◌≡◌, ℕ, ◌-◌, ◌/◌, ◌<◌, List, [], ◌++◌, length, get_or, drop, Ok, Err, Result, sym, refl, ap, ◌∙◌}
+use Rattle.std.proofs.Common.{◌≡◌, ℕ, ◌<◌, List, [], ◌++◌, length, get_or, drop, Ok, Err, Result, sym, refl, ap, ◌∙◌}
 use Rattle.refusals.specs.declared.Refusal.{Refusal}
 use Rattle.archive.specs.Contents.{Contents, contents, kept}
 use Rattle.archive.specs.Packed.{places, put}
-use Rattle.archive.specs.Intake.{taking_in, taken_in, entered}
-use Rattle.archive.specs.Listing.{listing, listed}
+use Rattle.archive.specs.Intake.{taking_in, entered}
 use Rattle.archive.proofs.Again.{taken_to_front}
-use Rattle.billing.specs.Host.{negated, answered, first, taking, rows_of, host_answer, host_memory, host_output}
+use Rattle.billing.specs.Host.{taking, rows_of, host_memory}
 
 module _ (rows memory : List ℕ) where
   abbrev empty : Contents
@@ -27,28 +26,3 @@ module _ (rows memory : List ℕ) where
         ∙ ap (λ t. kept a (entered put memory (length t.rows) (rows_of rows)) memory) none
         ∙ by_front a small taking_is
         ∙ ap (λ x. kept x (rows ++ drop (length rows) memory) memory) (sym taking_is)
-
-    -- where take-in refused
-    module _ (day hour : ℕ) (output : List ℕ) (e : Refusal) (refused : a ≡ Err e) where
-      pub answer_refused : negated e ≡ host_answer day hour rows (length memory) (length output)
-      answer_refused = sym (ap (λ x. first x (answered (listing day hour (rows_of rows) (length output)))) (taking_is ∙ refused))
-
-      pub output_refused : output ≡ host_output day hour rows (length memory) output
-      output_refused = sym (ap (λ x. kept x (listed day hour (rows_of rows) output) output) (taking_is ∙ refused))
-
-    -- where it took n rows, so that the archive holds them
-    module _ (day hour : ℕ) (output : List ℕ) (n : ℕ) (taken : a ≡ Ok n) (c' : Contents) (after : c' ≡ taken_in c rows) where
-      rows_are : c'.rows ≡ rows_of rows
-      rows_are =
-          ap (λ t. t.rows) (after ∙ ap (λ x. kept x (contents (c.rows ++ rows_of rows) (c.free - length rows / 15)) c) (sym answer ∙ taken))
-          ∙ ap (λ t. t.rows ++ rows_of rows) none
-
-      pub answer_listed : (b : Result ℕ Refusal) → b ≡ listing day hour c'.rows (length output) → answered b ≡ host_answer day hour rows (length memory) (length output)
-      answer_listed b e =
-          ap answered (e ∙ ap (λ t. listing day hour t (length output)) rows_are)
-          ∙ sym (ap (λ x. first x (answered (listing day hour (rows_of rows) (length output)))) (taking_is ∙ taken))
-
-      pub output_listed : listed day hour c'.rows output ≡ host_output day hour rows (length memory) output
-      output_listed =
-          ap (λ t. listed day hour t output) rows_are
-          ∙ sym (ap (λ x. kept x (listed day hour (rows_of rows) output) output) (taking_is ∙ taken))

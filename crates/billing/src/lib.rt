@@ -2,29 +2,39 @@
 #![tactic(auto)]
 
 ghost use Rattle.std.specs.Prelude.{◌≡◌, ◌≤◌, length, IfOk};
-ghost use Rattle.billing.specs.Host.{negated, answered, host_answer, host_memory, host_output};
+ghost use Rattle.billing.specs.Host.{answered, host_answer, host_memory, host_output};
 
 use archive::bytes::ByteArchive;
 use archive::intake::take_in;
 use archive::listing::list;
 use refusals::Refusal;
 
-// A refusal as the host knows it: its number with a minus.
-fn refused(refusal: Refusal) -> i64
-    ensures { result ≡ negated refusal }
+// What the host is told: the listing's length, or the number of the refusal with a minus.
+fn told(answer: Result<usize, Refusal>) -> i64
+    requires { IfOk answer (λ n. n ≤ 720) }
+    ensures { result ≡ answered answer }
 {
-    -(refusal.cause.number() as i64)
+    match answer {
+        Ok(length) => length as i64,
+        Err(refusal) => -(refusal.cause.number() as i64),
+    }
 }
 
-// The length of the listing, or its refusal.
-fn answer(listed: Result<usize, Refusal>) -> i64
-    requires { IfOk listed (λ n. n ≤ 720) }
-    ensures { result ≡ answered listed }
+fn take_and_list(
+    day: u32,
+    hour: u32,
+    rows: &[u8],
+    memory: &mut [u8],
+    output: &mut [u8],
+) -> Result<usize, Refusal>
+    ensures answer { answered result ≡ host_answer day hour rows.now (length memory.old) (length output.old) }
+    ensures short { IfOk result (λ n. n ≤ 720) }
+    ensures memory { memory.new ≡ host_memory rows.now memory.old }
+    ensures output { output.new ≡ host_output day hour rows.now (length memory.old) output.old }
 {
-    match listed {
-        Ok(length) => length as i64,
-        Err(refusal) => refused(refusal),
-    }
+    let mut archive = ByteArchive::new(memory);
+    take_in(&mut archive, rows)?;
+    list(&archive, day, hour, output)
 }
 
 /// Takes the row bytes into an empty byte archive in the host's memory, and lists a day and hour of them into the
@@ -41,9 +51,5 @@ pub extern "C" fn nookplover_list(
     ensures memory { memory.new ≡ host_memory rows.now memory.old }
     ensures output { output.new ≡ host_output day hour rows.now (length memory.old) output.old }
 {
-    let mut archive = ByteArchive::new(memory);
-    match take_in(&mut archive, rows) {
-        Ok(_) => answer(list(&archive, day, hour, output)),
-        Err(refusal) => refused(refusal),
-    }
+    told(take_and_list(day, hour, rows, memory, output))
 }

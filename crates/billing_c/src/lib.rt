@@ -4,7 +4,7 @@
 ghost use Rattle.std.specs.Prelude.{◌≡◌, length};
 ghost use Rattle.billing.specs.Host.{host_answer, host_memory, host_output};
 
-/// The listing of `billing`, with its clauses.
+/// The listing of `billing`, with its clauses. It stands here again since a crate is a library or a static library, not both.
 #[unsafe(no_mangle)]
 pub extern "C" fn nookplover_list(
     day: u32,

@@ -10,7 +10,7 @@ use arrayvec::ArrayString;
 // Holds any listing.
 pub(crate) type Text = ArrayString<720>;
 
-// Appends a number. `write!` would do, but its contract lets it fail, and no listing may.
+// Appends a number digit by digit: by its contract `write!` may fail, and then the listing's answer would not be known.
 fn push_number(text: &mut Text, n: u64)
     requires { array_string_len text.old + length (decimal n) ≤ 720 }
     ensures { text.new.bytes ≡ text.old.bytes ++ decimal n }
