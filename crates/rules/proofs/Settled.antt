@@ -22,9 +22,6 @@ pub record Totalled (zone wi wp : ℕ) (t : ℕ × ℕ) : Type 0 where
   pub zone-small : zone ≤ most
   pub loads-small : wi + wp ≤ most
 
-refused : {X : Type 0} (e : Refusal) (t : ℕ × ℕ) → Err e ≡ Ok t → X
-refused e t wrong = let z : ◌≡◌ {A = ℕ} 0 1 = cc in absurd (omega arith)
-
 nothing_unloaded : (w a : ℕ) → unloaded w (pos a) ≡ false → w ≡ 0 → a ≡ 0
 nothing_unloaded w a bears e = elim (and_cases (eqb w 0) (leb 1 a) bears) [
   | inl f ↦ absurd (both_ways (eqb w 0) f (eq-eqb w 0 e))
@@ -47,15 +44,15 @@ module _ (zone wi wp : ℕ) (t : ℕ × ℕ) (z-small : zone ≤ most) (w-small 
         zone-small = z-small;
         loads-small = w-small;
       }
-  naturals-told (pos a) (negsuc b) e f g told = refused _ t told
-  naturals-told (negsuc a) r e f g told = refused _ t told
+  naturals-told (pos a) (negsuc b) e f g told = cc
+  naturals-told (negsuc a) r e f g told = cc
 
   parts-told : (p : ℤ × ℤ) → p.0 +ℤ p.1 ≡ unaccounted zone wi wp → with_parts wi wp p ≡ Ok t → Totalled zone wi wp t
   parts-told p e =
       let s = pos wi +ℤ p.0 in
       let r = pos wp +ℤ p.1 in
       cond_both (unloaded wi s || unloaded wp r) (Err (refusal UnloadedGroup Sharing 0)) (naturals s r) (λ x. x ≡ Ok t → Totalled zone wi wp t)
-      (λ yes told. refused _ t told)
+      (λ yes told. cc)
       (λ bear told. let parts = or_parts (unloaded wi s) (unloaded wp r) bear in naturals-told s r (omega (arith, ints)) parts.0 parts.1 told)
 
 -- a total that is 0 where there is no weight arrives
@@ -73,8 +70,8 @@ module _ (m : ℤ → ℕ → ℕ → ℤ × ℤ) (adds_up : (u : ℤ) (wi wp : 
       let P : Result (ℕ × ℕ) Refusal → Type 0 = λ r. r ≡ Ok t → Totalled zone wi wp t in
       cond_both (leb zone most) _ _ P
       (λ yes. cond_both (leb (wi + wp) most) (with_parts wi wp (m u wi wp)) (Err (refusal LoadsTooHigh Sharing 0)) P
-      (λ light. parts-told zone wi wp t (leb-true zone most yes) (leb-true (wi + wp) most light) (m u wi wp) (adds_up u wi wp)) (λ heavy told. refused _ t told))
-      (λ far told. refused _ t told)
+      (λ light. parts-told zone wi wp t (leb-true zone most yes) (leb-true (wi + wp) most light) (m u wi wp) (adds_up u wi wp)) (λ heavy told. cc))
+      (λ far told. cc)
 
   -- the lines receive the zone load, whole
   pub finals-whole : (zone : ℕ) (ws vs : List ℕ) (t : ℕ × ℕ) → group_totals m zone (sum ws) (sum vs) ≡ Ok t → length ws ≡ length vs → sum (finals t.0 t.1 ws vs) ≡ zone

@@ -92,28 +92,21 @@ own_after g w c (x ∷ xs) zero e = let same : up_to g w (c + x) ≡ up_to g w c
 own_after g w c (x ∷ xs) (suc k) e = own_after g w (c + x) xs k e
 
 -- two lists of one length, place by place
-module _ where
-  empty_long : {X : Type 0} (n : ℕ) → 0 ≡ suc n → X
-  empty_long n e = absurd (omega arith)
-
-  long_empty : {X : Type 0} (n : ℕ) → suc n ≡ 0 → X
-  long_empty n e = absurd (omega arith)
-
 pub length-plus : (xs ys : List ℕ) → length xs ≡ length ys → length (plus xs ys) ≡ length xs
 length-plus [] ys e = refl
-length-plus (x ∷ xs) [] e = long_empty (length xs) e
+length-plus (x ∷ xs) [] e = absurd (omega arith)
 length-plus (x ∷ xs) (y ∷ ys) e = ap suc (length-plus xs ys (omega arith))
 
 pub sum-plus : (xs ys : List ℕ) → length xs ≡ length ys → sum (plus xs ys) ≡ sum xs + sum ys
 sum-plus [] [] e = refl
-sum-plus [] (y ∷ ys) e = empty_long (length ys) e
-sum-plus (x ∷ xs) [] e = long_empty (length xs) e
+sum-plus [] (y ∷ ys) e = absurd (omega arith)
+sum-plus (x ∷ xs) [] e = absurd (omega arith)
 sum-plus (x ∷ xs) (y ∷ ys) e = omega (arith, sum-plus xs ys (omega arith), sum_cons (x + y) (plus xs ys), sum_cons x xs, sum_cons y ys)
 
 get_or-plus : (xs ys : List ℕ) (k : ℕ) → length xs ≡ length ys → get_or (plus xs ys) k 0 ≡ get_or xs k 0 + get_or ys k 0
 get_or-plus [] [] k e = refl
-get_or-plus [] (y ∷ ys) k e = empty_long (length ys) e
-get_or-plus (x ∷ xs) [] k e = long_empty (length xs) e
+get_or-plus [] (y ∷ ys) k e = absurd (omega arith)
+get_or-plus (x ∷ xs) [] k e = absurd (omega arith)
 get_or-plus (x ∷ xs) (y ∷ ys) zero e = refl
 get_or-plus (x ∷ xs) (y ∷ ys) (suc k) e = get_or-plus xs ys k (omega arith)
 
@@ -134,7 +127,7 @@ own_group_only g h ws vs k same =
 
 plus_none : (h c : ℕ) (xs vs : List ℕ) → length xs ≡ length vs → plus xs (shares_after h 0 c vs) ≡ xs
 plus_none h c [] vs e = refl
-plus_none h c (x ∷ xs) [] e = long_empty (length xs) e
+plus_none h c (x ∷ xs) [] e = absurd (omega arith)
 plus_none h c (x ∷ xs) (v ∷ vs) e =
     let nothing : x + (up_to h 0 (c + v) - up_to h 0 c) ≡ x = omega (arith, div-zero (h * (c + v)), div-zero (h * c)) in
     ap (λ t. t ∷ plus xs (shares_after h 0 (c + v) vs)) nothing ∙ ap (λ t. x ∷ t) (plus_none h (c + v) xs vs (omega arith))

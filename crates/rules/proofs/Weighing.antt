@@ -27,14 +27,14 @@ weights_are ws vs t =
     let P : Result (ℕ × ℕ) Refusal → Type 0 = λ r. Ok t ≡ r → (t.0 ≡ sum ws) × (t.1 ≡ sum vs) × (sum ws + sum vs ≤ most) in
     cond_both (leb (sum ws + sum vs) most) (Ok (sum ws, sum vs)) (Err (refusal LoadsTooHigh Sharing 0)) P
     (λ yes e. let t-is : t ≡ (sum ws, sum vs) = cc in (ap (λ u. u.0) t-is, ap (λ u. u.1) t-is, leb-true (sum ws + sum vs) most yes))
-    (λ no e. let z : ◌≡◌ {A = ℕ} 0 1 = cc in absurd (omega arith))
+    (λ no e. cc)
 
 -- what sharing answers
 module _ (g h : ℕ) (ws vs : List ℕ) (room : ℕ) where
   weights_light : if_weighed (weighed ws vs) ≡ Ok tt → sum ws + sum vs ≤ most
   weights_light =
       cond_both (leb (sum ws + sum vs) most) (Ok (sum ws, sum vs)) (Err (refusal LoadsTooHigh Sharing 0)) (λ r. if_weighed r ≡ Ok tt → sum ws + sum vs ≤ most)
-      (λ yes e. leb-true (sum ws + sum vs) most yes) (λ no e. let z : ◌≡◌ {A = ℕ} 0 1 = cc in absurd (omega arith))
+      (λ yes e. leb-true (sum ws + sum vs) most yes) (λ no e. cc)
 
   -- what sharing that is not refused tells
   pub sharing-told : sharing g h ws vs room ≡ Ok tt → (g ≤ most) × (h ≤ most) × (length ws ≤ room) × (sum ws + sum vs ≤ most)
@@ -43,17 +43,17 @@ module _ (g h : ℕ) (ws vs : List ℕ) (room : ℕ) where
       cond_both (leb g most && leb h most) (cond (leb (length ws) room) (if_weighed (weighed ws vs)) (Err (refusal ListTooShort Sheet 0))) (Err (refusal OutOfRange Sheet 0)) P
       (λ yes. cond_both (leb (length ws) room) (if_weighed (weighed ws vs)) (Err (refusal ListTooShort Sheet 0)) P
       (λ long e. let both = and_parts (leb g most) (leb h most) yes in (leb-true g most both.0, leb-true h most both.1, leb-true (length ws) room long, weights_light e))
-      (λ short e. let z : ◌≡◌ {A = ℕ} 0 1 = cc in absurd (omega arith)))
-      (λ no e. let z : ◌≡◌ {A = ℕ} 0 1 = cc in absurd (omega arith))
+      (λ short e. cc))
+      (λ no e. cc)
 
 -- an answer that sharing decides
 module _ {X : Type 0} (x : X) where
   pub not_refused : (s : Result (Unit {0}) Refusal) (y : X) → Ok y ≡ unless_refused s x → (s ≡ Ok tt) × (y ≡ x)
   not_refused (Ok t) y e = (refl, cc)
-  not_refused (Err r) y e = let z : ◌≡◌ {A = ℕ} 0 1 = cc in absurd (omega arith)
+  not_refused (Err r) y e = cc
 
   pub was_refused : (s : Result (Unit {0}) Refusal) (r : Refusal) → Err r ≡ unless_refused s x → s ≡ Err r
-  was_refused (Ok t) r e = let z : ◌≡◌ {A = ℕ} 0 1 = cc in absurd (omega arith)
+  was_refused (Ok t) r e = cc
   was_refused (Err q) r e = let same : q ≡ r = cc in ap Err same
 
 -- what it leaves in the list
