@@ -1,5 +1,5 @@
 -- Bytes read from pairs of digits.
-use Rattle.std.proofs.Common.{◌≡◌, ℕ, ◌<◌, ◌≤◌, List, [], ◌∷◌, ◌++◌, length, get_or, drop, Some, None, Option, sym, refl, ap, ◌∙◌, append_assoc, arith}
+use Rattle.std.proofs.Common.{◌≡◌, ℕ, ◌≤◌, List, [], ◌∷◌, ◌++◌, length, get_or, drop, Some, None, Option, sym, refl, ap, ◌∙◌, append_assoc, arith}
 use Rattle.nookplover.specs.Numerals.{byte_pair, then_bytes, bytes_in}
 
 -- bytes before those that were read
@@ -16,21 +16,7 @@ pair_first [] h = absurd (omega arith)
 pair_first (a ∷ []) h = absurd (omega arith)
 pair_first (a ∷ b ∷ rest) h = refl
 
--- a pair that is no byte
-pub no_byte : (bs rest : List ℕ) → 2 ≤ length rest → byte_pair (get_or rest 0 0) (get_or rest 1 0) ≡ None → prepended bs (bytes_in rest) ≡ None
-no_byte bs rest long e = ap (prepended bs) (pair_first rest long ∙ ap (λ o. then_bytes o (bytes_in (drop 2 rest))) e)
-
 -- a byte more
 pub one_byte : (bs rest : List ℕ) (b : ℕ) → 2 ≤ length rest → byte_pair (get_or rest 0 0) (get_or rest 1 0) ≡ Some b → prepended bs (bytes_in rest) ≡ prepended (bs ++ b ∷ []) (bytes_in (drop 2 rest))
 one_byte bs rest b long e =
     ap (prepended bs) (pair_first rest long ∙ ap (λ o. then_bytes o (bytes_in (drop 2 rest))) e) ∙ prepended_byte bs b (bytes_in (drop 2 rest))
-
--- a digit alone
-pub odd_digit : (bs rest : List ℕ) → 0 < length rest → length rest < 2 → prepended bs (bytes_in rest) ≡ None
-odd_digit bs [] some short = absurd (omega arith)
-odd_digit bs (a ∷ []) some short = refl
-odd_digit bs (a ∷ b ∷ rest) some short = absurd (omega arith)
-
-pub no_digits : (bs rest : List ℕ) → length rest ≡ 0 → prepended bs (bytes_in rest) ≡ Some (bs ++ [])
-no_digits bs [] e = refl
-no_digits bs (a ∷ rest) e = absurd (omega arith)

@@ -2,6 +2,7 @@
 use book::Entry;
 
 /// The archive that a journal asks for.
+// No Option of a size: each is an archive, and neither is a missing one.
 #[derive(Clone, Copy)]
 pub(crate) enum Holding {
     /// A byte archive in so many bytes of memory.

@@ -6,7 +6,7 @@ use crate::slips::Slips;
 use archive::Archive;
 use archive::intake::take_in;
 use archive::listing::list;
-use book::{Book, Entry, Roster};
+use book::{Book, Roster};
 use std::alloc::{AllocError, Global};
 use std::io;
 use std::io::Write;
@@ -70,26 +70,14 @@ impl<'a, A: Archive> Desk<'a, A> {
     // Makes a call.
     fn make(&mut self, call: &Call) -> Result<Answer, Denial> {
         match call {
-            Call::Enrol(
-                Entry {
-                    account,
-                    from_day,
-                    supplier,
-                },
-            ) => {
+            Call::Enrol(entry) => {
                 self.roster
-                    .enrol(&self.book, *account, *from_day, *supplier)?;
+                    .enrol(&self.book, entry.account, entry.from_day, entry.supplier)?;
                 Ok(Answer::Accepted)
             }
-            Call::Switch(
-                Entry {
-                    account,
-                    from_day,
-                    supplier,
-                },
-            ) => {
+            Call::Switch(entry) => {
                 self.roster
-                    .switch(&self.book, *account, *from_day, *supplier)?;
+                    .switch(&self.book, entry.account, entry.from_day, entry.supplier)?;
                 Ok(Answer::Accepted)
             }
             Call::Drop { account, from_day } => {
@@ -111,7 +99,7 @@ impl<'a, A: Archive> Desk<'a, A> {
     // Prints what an answer is about: the listing, or the archive's rows.
     fn print_after<W: Write>(&self, answer: Answer, output: &mut W) -> io::Result<()> {
         match answer {
-            Answer::Listed(length) => { output.write_all(&self.listing[..length.min(LISTING)]) }
+            Answer::Listed(length) => output.write_all(&self.listing[..length.min(LISTING)]),
             Answer::Held(_) => {
                 for row in self.archive.rows() {
                     writeln!(output, "{}", Hex(&row.to_bytes()))?;

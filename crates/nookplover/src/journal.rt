@@ -23,8 +23,7 @@ pub(crate) struct Unreadable {
 
 impl fmt::Display for Unreadable {
     fn fmt<W: fmt::Write>(&self, f: &mut fmt::Formatter<W>) -> fmt::Result {
-        let line = self.line;
-        let problem = self.problem;
+        let Unreadable { line, problem } = self;
         write!(f, "journal: line {line}: {problem}")
     }
 }

@@ -25,6 +25,7 @@ mod slips;
 const WAITING: usize = 65_536;
 
 /// Where the journal comes from.
+// No Option of a name: each is a place to read from, and neither is a missing one.
 #[derive(Drop)]
 enum Source {
     File(String),

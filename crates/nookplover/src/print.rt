@@ -22,6 +22,7 @@ pub(crate) struct End {
     pub(crate) entries: usize,
 }
 
+// `char::from_digit` gives small letters.
 fn hex_digit(n: u8) -> u8
     requires { n < 16 }
     ensures { result ≡ hex_digit n }
@@ -63,20 +64,22 @@ impl fmt::Display for Call {
 
     fn fmt<W: fmt::Write>(&self, f: &mut fmt::Formatter<W>) -> fmt::Result {
         match self {
-            Call::Enrol(
-                Entry {
+            Call::Enrol(entry) => {
+                let Entry {
                     account,
                     from_day,
                     supplier,
-                },
-            ) => write!(f, "enrol {account} {from_day} {supplier}"),
-            Call::Switch(
-                Entry {
+                } = entry;
+                write!(f, "enrol {account} {from_day} {supplier}")
+            }
+            Call::Switch(entry) => {
+                let Entry {
                     account,
                     from_day,
                     supplier,
-                },
-            ) => write!(f, "switch {account} {from_day} {supplier}"),
+                } = entry;
+                write!(f, "switch {account} {from_day} {supplier}")
+            }
             Call::Drop { account, from_day } => write!(f, "drop {account} {from_day}"),
             Call::Open { day, hours } => write!(f, "open {day} {hours}"),
             Call::Turn { day } => write!(f, "turn {day}"),
