@@ -17,7 +17,7 @@ pub trait Checked: Accounted {
         ensures { result ≡ cause_in self.now };
 }
 
-/// What a line meets: its ranges, its order, its billed usage, its supplier, which is 0 for nobody as in a table.
+/// What a line meets: its ranges, its order, its billed usage, its supplier (0 for nobody, as the table has it).
 fn line_cause(cause: Option<Cause>, above: bool, supplier: u8) -> Option<Cause>
     ensures { result ≡ line_cause cause above supplier }
 {

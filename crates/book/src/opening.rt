@@ -11,7 +11,7 @@ use rows::is_day;
 /// The book: it knows the last opened day, 0 at first.
 #[derive(Drop)]
 pub struct Book {
-    // A day is compared with it as with any other, so none opened is 0 and no Option.
+    // A day is compared with it as with any other, and `last_opened` answers it, so none opened is 0 and no Option.
     last_opened: u32,
 }
 

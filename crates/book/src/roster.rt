@@ -3,7 +3,7 @@
 use std::marker::Model;
 
 /// From a day on, a supplier serves an account. Supplier 0, or any outside 1 to 32, is nobody.
-#[derive(Clone, Copy)]
+#[derive(Clone, Copy, Default)]
 pub struct Entry {
     pub account: u32,
     pub from_day: u32,

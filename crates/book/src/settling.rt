@@ -16,7 +16,10 @@ use archive::Archive;
 use archive::adjusting::{Slot, adjust};
 use refusals::{Cause, Layer, Refusal};
 use rows::Kind;
-use rules::{Arrangement, Energy, Line, group_totals, obligations, share, weigh};
+use rules::{Arrangement, Energy, Line, MOST, group_totals, obligations, share, weigh};
+
+/// The most lines of a sheet.
+const LINES: usize = 65_536;
 
 /// A settle line names its account.
 impl Accounted for Line {
@@ -39,7 +42,7 @@ impl Checked for Line {
 fn is_in_order(hours: u32, hour: u32, zone_load: u32, lines: usize) -> bool
     ensures { result ≡ in_order hours hour zone_load lines }
 {
-    (1..=hours).contains(&hour) && zone_load <= 3_000_000_000 && lines <= 65_536
+    (1..=hours).contains(&hour) && u64::from(zone_load) <= MOST && lines <= LINES
 }
 
 /// The totals of the two groups of a sheet.
@@ -57,13 +60,14 @@ fn sheet_totals<R: Arrangement>(
 
 /// What a settling comes to: the totals of the two groups, and each supplier's obligation.
 #[derive(Clone, Copy)]
-pub(crate) struct Owed {
+struct Owed {
     interval: u64,
     profiled: u64,
     suppliers: [u64; 32],
 }
 
 /// The checks up to the totals of the groups, and then the obligations.
+// What an hour is settled by stays apart and in no struct: a clause makes one value of it (`hour_of`), and only two functions take it.
 fn hour_owed<const STAGE: u8, R: Arrangement>(
     slip: &Slip<STAGE>,
     hour: u32,
@@ -81,7 +85,7 @@ fn hour_owed<const STAGE: u8, R: Arrangement>(
     if places < sheet.len() {
         return Err(Refusal::new(Cause::ListTooShort, Layer::Sheet));
     }
-    let mut table = [0u8; 65_536];
+    let mut table = [0u8; LINES];
     check_sheet(sheet, roster, slip.day(), &mut table)?;
     let (interval, profiled) = sheet_totals(arrangement, zone_load, sheet)?;
     let suppliers = obligations(interval, profiled, sheet, &table[..sheet.len()])?;

@@ -71,13 +71,11 @@ impl<'a, A: Archive> Desk<'a, A> {
     fn make(&mut self, call: &Call) -> Result<Answer, Denial> {
         match call {
             Call::Enrol(entry) => {
-                self.roster
-                    .enrol(&self.book, entry.account, entry.from_day, entry.supplier)?;
+                self.roster.enrol(&self.book, *entry)?;
                 Ok(Answer::Accepted)
             }
             Call::Switch(entry) => {
-                self.roster
-                    .switch(&self.book, entry.account, entry.from_day, entry.supplier)?;
+                self.roster.switch(&self.book, *entry)?;
                 Ok(Answer::Accepted)
             }
             Call::Drop { account, from_day } => {

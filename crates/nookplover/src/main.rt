@@ -53,9 +53,7 @@ impl fmt::Display for Failure {
 }
 
 fn find_source(rt: &HostRuntime) -> Result<Source, Failure> {
-    let Ok(mut words) = env::args(rt) else {
-        return Err(Failure::Usage);
-    };
+    let mut words = env::args(rt).map_err(|_| Failure::Usage)?;
     let _program = words.next();
     let Some(verb) = words.next() else {
         return Ok(Source::Input);
@@ -83,12 +81,7 @@ fn read_all(rt: &HostRuntime, source: &Source) -> io::Result<Vec<u8>> {
 // Slips that are open at the end are closed whatever came, since they must be.
 fn run_on<A: Archive>(rt: &HostRuntime, journal: &Journal, archive: &mut A) -> io::Result<()> {
     let heap = rt.alloc();
-    let nobody = Entry {
-        account: 0,
-        from_day: 0,
-        supplier: 0,
-    };
-    let mut entries = vec![in heap; nobody; journal.roster as usize]?;
+    let mut entries = vec![in heap; Entry::default(); journal.roster as usize]?;
     let mut output = BufWriter::with_capacity(heap, WAITING, rt.stdout())?;
     let mut desk = Desk::new(heap, Roster::new(&mut entries), archive)?;
     let ran = desk.run(&journal.calls, &mut output);

@@ -22,7 +22,7 @@ pub(crate) struct End {
     pub(crate) entries: usize,
 }
 
-// `char::from_digit` gives small letters.
+// `char::from_digit` gives small letters, and of what `{:X}` writes a proof knows nothing.
 fn hex_digit(n: u8) -> u8
     requires { n < 16 }
     ensures { result ≡ hex_digit n }

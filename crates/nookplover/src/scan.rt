@@ -23,7 +23,9 @@ fn is_blank(b: u8) -> bool
 
 impl<'a> Words<'a> {
     /// The words of a line.
-    pub(crate) fn new(line: &'a [u8]) -> Words<'a> {
+    pub(crate) fn new(line: &'a [u8]) -> Words<'a>
+        ensures { result.0.now ≡ line.now }
+    {
         Words(line)
     }
 }
@@ -55,7 +57,9 @@ fn without_return(line: &[u8]) -> &[u8]
 
 impl<'a> Lines<'a> {
     /// The lines of a text.
-    pub(crate) fn new(text: &'a [u8]) -> Lines<'a> {
+    pub(crate) fn new(text: &'a [u8]) -> Lines<'a>
+        ensures { result.0.now ≡ text.now }
+    {
         Lines(text)
     }
 }
@@ -117,6 +121,7 @@ pub(crate) fn bytes_in(heap: Global, word: &[u8]) -> Result<Option<Vec<u8>>, All
 {
     let mut bytes = Vec::with_capacity(heap, word.len() / 2)?;
     let mut rest = word;
+    // Not `chunks_exact`: the definition takes pairs from the front too.
     while let [high, low, after @ ..] = rest {
         let Some(byte) = byte_pair(*high, *low) else {
             return Ok(None);

@@ -76,6 +76,7 @@ impl Slips {
     }
 
     /// Turns the slip of a day, if one is open in stage 1.
+    // Another slip has to be put back, here and in `close`: a `let .. else` would lose it.
     pub(crate) fn turn(&mut self, day: u32) -> Result<(), Denial> {
         match self.take(day) {
             Some(Open::Estimate(slip)) => {

@@ -19,6 +19,7 @@ pub struct Row {
     pub kind: Kind,
     pub day: u16,
     pub hour: u8,
+    // As wide as in its bytes: one out of range is refused by number.
     pub stage: u8,
     pub supplier: u8,
     pub amount: i64,
@@ -121,8 +122,8 @@ impl Row {
     pub fn is_lawful(self) -> bool
         ensures { result ≡ lawful self }
     {
-        is_day(self.day as u32)
-            && is_supplier(self.supplier as u32)
+        is_day(u32::from(self.day))
+            && is_supplier(u32::from(self.supplier))
             && is_bookable(self.amount)
             && self.kind.is_timely(self.hour, self.stage)
     }

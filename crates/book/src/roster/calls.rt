@@ -9,24 +9,13 @@ use crate::ranges::check;
 use refusals::{Cause, Refusal};
 
 impl<'a> Roster<'a> {
-    /// Adds a supplier to an account that is not served.
-    pub fn enrol(
-        &mut self,
-        book: &Book,
-        account: u32,
-        from_day: u32,
-        supplier: u32,
-    ) -> Result<(), Refusal>
-        ensures answer { result ≡ enrolling book.now.last_opened self.old account from_day supplier }
-        ensures after { self.new ≡ after_call self.old (to_enrol book.now.last_opened account from_day supplier) }
+    /// Adds an entry with a supplier to an account that is not served.
+    pub fn enrol(&mut self, book: &Book, entry: Entry) -> Result<(), Refusal>
+        ensures answer { result ≡ enrolling book.now.last_opened self.old entry.account entry.from_day entry.supplier }
+        ensures after { self.new ≡ after_call self.old (to_enrol book.now.last_opened entry.account entry.from_day entry.supplier) }
     {
-        let entry = Entry {
-            account,
-            from_day,
-            supplier,
-        };
         self.admit(entry.is_in_range())?;
-        let last = self.last_entry(account, None);
+        let last = self.last_entry(entry.account, None);
         check(
             last.and_then(Entry::supplier).is_none(),
             Cause::AlreadyServed,
@@ -34,24 +23,13 @@ impl<'a> Roster<'a> {
         self.add_after(book, last, entry)
     }
 
-    /// Names another supplier for a served account.
-    pub fn switch(
-        &mut self,
-        book: &Book,
-        account: u32,
-        from_day: u32,
-        supplier: u32,
-    ) -> Result<(), Refusal>
-        ensures answer { result ≡ switching book.now.last_opened self.old account from_day supplier }
-        ensures after { self.new ≡ after_call self.old (to_switch book.now.last_opened account from_day supplier) }
+    /// Adds an entry with another supplier to a served account.
+    pub fn switch(&mut self, book: &Book, entry: Entry) -> Result<(), Refusal>
+        ensures answer { result ≡ switching book.now.last_opened self.old entry.account entry.from_day entry.supplier }
+        ensures after { self.new ≡ after_call self.old (to_switch book.now.last_opened entry.account entry.from_day entry.supplier) }
     {
-        let entry = Entry {
-            account,
-            from_day,
-            supplier,
-        };
         self.admit(entry.is_in_range())?;
-        let last = self.last_entry(account, None);
+        let last = self.last_entry(entry.account, None);
         let serving = last.and_then(Entry::supplier);
         check(serving.is_some(), Cause::NotServed)?;
         check(serving != entry.supplier(), Cause::SameSupplier)?;

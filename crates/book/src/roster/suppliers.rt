@@ -53,28 +53,31 @@ mod tests {
         }
     }
 
+    fn entry(account: u32, from_day: u32, supplier: u32) -> Entry {
+        Entry {
+            account,
+            from_day,
+            supplier,
+        }
+    }
+
     #[test]
     fn suppliers_of_a_sheet(rt: HostRuntime) {
-        let blank = Entry {
-            account: 0,
-            from_day: 0,
-            supplier: 0,
-        };
-        let mut memory = [blank; 5];
+        let mut memory = [Entry::default(); 5];
         let mut roster = Roster::new(&mut memory);
         let book = Book::new();
-        assert!(rt; roster.enrol(&book, 4, 10, 7).is_ok());
-        assert!(rt; roster.enrol(&book, 2, 5, 3).is_ok());
-        assert!(rt; roster.switch(&book, 2, 8, 9).is_ok());
-        assert!(rt; roster.drop(&book, 4, 11).is_ok());
-        assert!(rt; roster.switch(&book, 2, 20, 32).is_ok());
-        assert!(rt; roster.enrol(&book, 3, 1, 1).is_err());
+        assert_eq!(rt; roster.enrol(&book, entry(4, 10, 7)), Ok(()));
+        assert_eq!(rt; roster.enrol(&book, entry(2, 5, 3)), Ok(()));
+        assert_eq!(rt; roster.switch(&book, entry(2, 8, 9)), Ok(()));
+        assert_eq!(rt; roster.drop(&book, 4, 11), Ok(()));
+        assert_eq!(rt; roster.switch(&book, entry(2, 20, 32)), Ok(()));
+        assert!(rt; roster.enrol(&book, entry(3, 1, 1)).is_err());
         let lines = [Line(2), Line(3), Line(4), Line(4), Line(5)];
         let mut table = [255; 5];
         assert_eq!(rt; roster.suppliers(&lines, 10, &mut table), 3);
-        assert!(rt; table[0] == 9 && table[1] == 0 && table[2] == 7 && table[3] == 255);
+        assert_eq!(rt; table, [9, 0, 7, 255, 255]);
         assert_eq!(rt; roster.suppliers(&lines, 20, &mut table), 3);
-        assert!(rt; table[0] == 32 && table[2] == 0 && table[4] == 255);
+        assert_eq!(rt; table, [32, 0, 0, 255, 255]);
         assert_eq!(rt; roster.supplier_on(2, 7), Some(3));
         assert_eq!(rt; roster.supplier_on(2, 4), None);
     }

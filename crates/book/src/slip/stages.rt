@@ -15,7 +15,8 @@ impl<const STAGE: u8> Slip<STAGE> {
 
     /// How many hours the day has.
     pub fn hours(&self) -> u32
-        ensures { result ≡ self.now.hours }
+        ensures answer { result ≡ self.now.hours }
+        ensures kept { IsSlip STAGE self.now }
     {
         self.hours
     }
@@ -35,7 +36,8 @@ impl<const STAGE: u8> Slip<STAGE> {
 impl Slip<1> {
     /// Exchanges the slip for one of stage 2, in which no hour is settled.
     pub fn turn(self) -> Slip<2>
-        ensures { result ≡ turned self }
+        ensures answer { result ≡ turned self }
+        ensures kept { IsSlip 2 result }
     {
         let Slip {
             day,
@@ -53,7 +55,8 @@ impl Slip<1> {
 impl Slip<2> {
     /// Ends the slip. The answer is the sum of 2 to the power (h - 1) over the hours h not settled in stage 2.
     pub fn close(self) -> u32
-        ensures { result ≡ closing self }
+        ensures answer { result ≡ closing self }
+        ensures kept { IsSlip 2 self }
     {
         let Slip {
             day: _,

@@ -14,24 +14,24 @@ use Rattle.book.proofs.settling.hour_owed.Goals as goal
 pub returns-then-not-is_in_order : goal.returns-then-not-is_in_order
 returns-then-not-is_in_order g c =
     let h : Hour = hour_of (g.R.Arrangement.meaning c.args.arrangement.now) c.args.slip.now c.args.hour c.args.zone_load c.args.sheet.now c.args.roster.now.entries in
-    out_of_order h c.args.places (owed_in h) c.new.result c.new.ensures (ap (λ n. in_order n h.hour h.zone (length h.sheet)) (sym c.hours.ensures) ∙ sym c.is_in_order.ensures ∙ c.if-not-is_in_order.true)
+    out_of_order h c.args.places (owed_in h) c.new.result c.new.ensures (ap (λ n. in_order n h.hour h.zone (length h.sheet)) (sym c.hours.ensures.answer) ∙ sym c.is_in_order.ensures ∙ c.if-not-is_in_order.true)
 
 pub returns-then-places-sheet : goal.returns-then-places-sheet
 returns-then-places-sheet g c =
     let h : Hour = hour_of (g.R.Arrangement.meaning c.args.arrangement.now) c.args.slip.now c.args.hour c.args.zone_load c.args.sheet.now c.args.roster.now.entries in
-    list_short h c.args.places (owed_in h) c.new-then-places-sheet.result c.new-then-places-sheet.ensures (ap (λ n. in_order n h.hour h.zone (length h.sheet)) (sym c.hours.ensures) ∙ sym c.is_in_order.ensures ∙ c.if-not-is_in_order.false) c.if-places-sheet.true
+    list_short h c.args.places (owed_in h) c.new-then-places-sheet.result c.new-then-places-sheet.ensures (ap (λ n. in_order n h.hour h.zone (length h.sheet)) (sym c.hours.ensures.answer) ∙ sym c.is_in_order.ensures ∙ c.if-not-is_in_order.false) c.if-places-sheet.true
 
 pub returns-in_err-check_sheet : goal.returns-in_err-check_sheet
 returns-in_err-check_sheet g c =
     let h : Hour = hour_of (g.R.Arrangement.meaning c.args.arrangement.now) c.args.slip.now c.args.hour c.args.zone_load c.args.sheet.now c.args.roster.now.entries in
-    let order = ap (λ n. in_order n h.hour h.zone (length h.sheet)) (sym c.hours.ensures) ∙ sym c.is_in_order.ensures ∙ c.if-not-is_in_order.false in
+    let order = ap (λ n. in_order n h.hour h.zone (length h.sheet)) (sym c.hours.ensures.answer) ∙ sym c.is_in_order.ensures ∙ c.if-not-is_in_order.false in
     let p = err_from_is_err_and c.from_residual.result c.from_residual.ensures.1 in
     p.1 ∙ ap Err p.2 ∙ line_refused h c.args.places (owed_in h) order c.if-places-sheet.false _ (c.in_err-check_sheet.ensures.answer ∙ ap (λ d. checked_lines (map line_in h.sheet) (suppliers_on d h.entries (map account_of h.sheet))) c.day.ensures.answer)
 
 pub returns-in_err-interval : goal.returns-in_err-interval
 returns-in_err-interval g c =
     let h : Hour = hour_of (g.R.Arrangement.meaning c.args.arrangement.now) c.args.slip.now c.args.hour c.args.zone_load c.args.sheet.now c.args.roster.now.entries in
-    let order = ap (λ n. in_order n h.hour h.zone (length h.sheet)) (sym c.hours.ensures) ∙ sym c.is_in_order.ensures ∙ c.if-not-is_in_order.false in
+    let order = ap (λ n. in_order n h.hour h.zone (length h.sheet)) (sym c.hours.ensures.answer) ∙ sym c.is_in_order.ensures ∙ c.if-not-is_in_order.false in
     let p = err_from_is_err_and c.from_residual-in_err-interval.result c.from_residual-in_err-interval.ensures.1 in
     p.1 ∙ ap Err p.2 ∙ totals_refused h c.args.places (owed_in h) order c.if-places-sheet.false _ _ (c.in_ok-check_sheet.ensures.answer ∙ ap (λ d. checked_lines (map line_in h.sheet) (suppliers_on d h.entries (map account_of h.sheet))) c.day.ensures.answer) c.in_err-interval.ensures
 
@@ -50,7 +50,7 @@ returns-in_err-suppliers g c =
 pub returns : goal.returns
 returns g c =
     let h : Hour = hour_of (g.R.Arrangement.meaning c.args.arrangement.now) c.args.slip.now c.args.hour c.args.zone_load c.args.sheet.now c.args.roster.now.entries in
-    let order = ap (λ n. in_order n h.hour h.zone (length h.sheet)) (sym c.hours.ensures) ∙ sym c.is_in_order.ensures ∙ c.if-not-is_in_order.false in
+    let order = ap (λ n. in_order n h.hour h.zone (length h.sheet)) (sym c.hours.ensures.answer) ∙ sym c.is_in_order.ensures ∙ c.if-not-is_in_order.false in
     let i = c.in_ok-interval.interval in
     let p = c.in_ok-interval.profiled in
     let n = length c.args.sheet.now in
