@@ -1,4 +1,3 @@
 pub mod Decimals
 pub mod Pairs
 pub mod Lines
-pub mod Hexadecimal

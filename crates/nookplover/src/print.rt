@@ -1,14 +1,13 @@
 //! What the program prints of calls and answers.
 ghost use Rattle.std.specs.Prelude.{◌≡◌, ◌<◌, ◌≤◌, length, Some};
-ghost use Rattle.std.specs.Str.{IsAscii};
 ghost use Rattle.nookplover.specs.Numerals.{hex_digit, hex_of};
 ghost use Rattle.nookplover.specs.Texts.{call_words, answer_line, denial_line, end_line};
 
 use crate::answer::{Answer, Denial};
 use crate::call::Call;
-use arrayvec::ArrayVec;
+use arrayvec::ArrayString;
 use book::Entry;
-use std::{fmt, str};
+use std::fmt;
 
 /// Bytes that print as two hexadecimal digits each, in capitals.
 #[derive(Clone, Copy)]
@@ -30,15 +29,14 @@ fn hex_digit(n: u8) -> u8
     if n < 10 { b'0' + n } else { b'A' + (n - 10) }
 }
 
-fn hex_digits(bytes: &[u8]) -> ArrayVec<u8, 64>
+fn hex_digits(bytes: &[u8]) -> ArrayString<64>
     requires { length bytes.now ≤ 32 }
-    ensures digits { result.items ≡ hex_of bytes.now }
-    ensures text { IsAscii result.items }
+    ensures { result.bytes ≡ hex_of bytes.now }
 {
-    let mut digits = ArrayVec::new();
+    let mut digits = ArrayString::new();
     for b in bytes {
-        digits.push(hex_digit(*b / 16));
-        digits.push(hex_digit(*b % 16));
+        digits.push(char::from(hex_digit(*b / 16)));
+        digits.push(char::from(hex_digit(*b % 16)));
     }
     digits
 }
@@ -50,10 +48,7 @@ impl fmt::Display for Hex<'_> {
         // To write each digit for itself takes four times as long.
         for chunk in self.0.chunks(32) {
             let digits = hex_digits(chunk);
-            let Ok(text) = str::from_utf8(digits.as_slice()) else {
-                unreachable!();
-            };
-            f.write_str(text)?;
+            f.write_str(digits.as_str())?;
         }
         Ok(())
     }
