@@ -67,7 +67,7 @@ impl Arrangement for Percent {
 
     fn parts(&self, unaccounted: i64, interval: u64, profiled: u64) -> (i64, i64) {
         if can_part(unaccounted, interval, profiled) {
-            portion_and_rest(unaccounted, self.value as u64, 100)
+            portion_and_rest(unaccounted, u64::from(self.value), 100)
         } else {
             (0, unaccounted)
         }
