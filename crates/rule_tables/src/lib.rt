@@ -48,6 +48,15 @@ mod tests {
         }
     }
 
+    // Of loads 1, 7 and 2.
+    fn three_lines() -> [Line; 3] {
+        [
+            interval(1, 10_000, 1),
+            profiled(10_000, 7, 1, 1),
+            interval(2, 10_000, 2),
+        ]
+    }
+
     #[test]
     fn accounts(rt: HostRuntime) {
         let table = [
@@ -175,13 +184,9 @@ mod tests {
 
     #[test]
     fn sharing_keeps_the_rest(rt: HostRuntime) -> Result<(), Fail> {
-        let sheet = [
-            interval(1, 10_000, 1),
-            profiled(10_000, 7, 1, 1),
-            interval(2, 10_000, 2),
-        ];
+        let sheet = three_lines();
         let mut list = [Energy(9); 4];
-        share(10, 5, &sheet, &mut list).ok().ok_or("refused")?;
+        share(10, 5, &sheet, &mut list)?;
         assert_eq!(rt; list, [Energy(3), Energy(5), Energy(7), Energy(9)]);
         Ok(())
     }
@@ -224,18 +229,10 @@ mod tests {
     // Of 3, 5 and 7: to the last supplier and the first, and to numbers that are nobody's.
     #[test]
     fn obligations_by_supplier(rt: HostRuntime) -> Result<(), Fail> {
-        let sheet = [
-            interval(1, 10_000, 1),
-            profiled(10_000, 7, 1, 1),
-            interval(2, 10_000, 2),
-        ];
-        let sums = obligations(10, 5, &sheet, &[32, 1, 32])
-            .ok()
-            .ok_or("refused")?;
+        let sheet = three_lines();
+        let sums = obligations(10, 5, &sheet, &[32, 1, 32])?;
         assert_eq!(rt; (sums[0], sums[1], sums[30], sums[31]), (5, 0, 0, 10));
-        let sums = obligations(10, 5, &sheet, &[0, 33, 2, 1])
-            .ok()
-            .ok_or("refused")?;
+        let sums = obligations(10, 5, &sheet, &[0, 33, 2, 1])?;
         assert_eq!(rt; (sums[0], sums[1], sums[31]), (0, 7, 0));
         assert_eq!(rt;
             obligations(10, 5, &sheet, &[1, 1])
@@ -257,8 +254,8 @@ mod tests {
 
     #[test]
     fn parts(rt: HostRuntime) -> Result<(), Fail> {
-        let five = Percent::new(5).ok().ok_or("refused")?;
-        let all = Percent::new(100).ok().ok_or("refused")?;
+        let five = Percent::new(5)?;
+        let all = Percent::new(100)?;
         assert_eq!(rt; five.parts(-49, 1, 1), (-2, -47));
         assert_eq!(rt; five.parts(0, 1, 1), (0, 0));
         assert_eq!(rt; five.parts(3_000_000_001, 1, 1), (0, 3_000_000_001));
@@ -294,7 +291,7 @@ mod tests {
 
     #[test]
     fn totals_refused(rt: HostRuntime) -> Result<(), Fail> {
-        let none = Percent::new(0).ok().ok_or("refused")?;
+        let none = Percent::new(0)?;
         let table = [
             (3_000_000_000, 1, 1, None),
             (3_000_000_001, 1, 1, Some((10, 2, 0))),

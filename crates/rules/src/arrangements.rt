@@ -32,26 +32,15 @@ pub fn can_part(unaccounted: i64, interval: u64, profiled: u64) -> bool
     within_most(interval, profiled) && unaccounted.unsigned_abs() <= MOST
 }
 
-/// u × a / b, rounded toward zero.
-fn portion_of(u: i64, a: u64, b: u64) -> i64
-    requires small { unsigned_abs u ≤ most }
-    requires part { a ≤ b }
-    requires limit { b ≤ most }
-    ensures value { result ≡ portion u a b }
-    ensures small { unsigned_abs result ≤ unsigned_abs u }
-{
-    if b == 0 { 0 } else { u * a as i64 / b as i64 }
-}
-
-/// The same, and the rest of u.
+/// u × a / b, rounded toward zero, and the rest of u.
 fn portion_and_rest(u: i64, a: u64, b: u64) -> (i64, i64)
     requires small { unsigned_abs u ≤ most }
     requires part { a ≤ b }
     requires limit { b ≤ most }
     ensures { result ≡ (portion u a b, u -ℤ portion u a b) }
 {
-    let i = portion_of(u, a, b);
-    (i, u - i)
+    let part = if b == 0 { 0 } else { u * a as i64 / b as i64 };
+    (part, u - part)
 }
 
 impl Percent {
@@ -78,7 +67,7 @@ impl Arrangement for Percent {
 
     fn parts(&self, unaccounted: i64, interval: u64, profiled: u64) -> (i64, i64) {
         if can_part(unaccounted, interval, profiled) {
-            portion_and_rest(unaccounted, self.value as u64, 100)
+            portion_and_rest(unaccounted, u64::from(self.value), 100)
         } else {
             (0, unaccounted)
         }
@@ -98,6 +87,7 @@ impl Arrangement for ProRata {
 
     ghost bounded = { Prim.search rules };
 
+    // Not one function with `Percent`'s: the whole would be a parameter, and only after the test may loads be added.
     fn parts(&self, unaccounted: i64, interval: u64, profiled: u64) -> (i64, i64) {
         if can_part(unaccounted, interval, profiled) {
             portion_and_rest(unaccounted, interval, interval + profiled)

@@ -16,7 +16,7 @@ fn rounded_load(n: u64, d: u64) -> u64
 pub(crate) fn interval_load(loss: LossFactor, reading: Usage) -> u64
     ensures { result ≡ rounded (reading.value * loss.value) 10000 }
 {
-    rounded_load(reading.value as u64 * loss.value as u64, 10_000)
+    rounded_load(reading.wide() * loss.wide(), 10_000)
 }
 
 pub(crate) fn profiled_load(
@@ -28,16 +28,13 @@ pub(crate) fn profiled_load(
     ensures { result ≡ profiled_load loss.value profile.value billed.value usage.value }
 {
     rounded_load(
-        profile.value as u64 * billed.value as u64 * loss.value as u64,
-        usage.value as u64 * 10_000,
+        profile.wide() * billed.wide() * loss.wide(),
+        usage.wide() * 10_000,
     )
 }
 
 pub(crate) fn demand_load(loss: LossFactor, demand: Usage, factor: Coincidence) -> u64
     ensures { result ≡ demand_load loss.value demand.value factor.value }
 {
-    rounded_load(
-        demand.value as u64 * factor.value as u64 * loss.value as u64,
-        100_000_000,
-    )
+    rounded_load(demand.wide() * factor.wide() * loss.wide(), 100_000_000)
 }

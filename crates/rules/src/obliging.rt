@@ -13,7 +13,7 @@ fn add_to(sums: &mut [u64; 32], supplier: u8, share: u64)
     ensures { sums.new ≡ added sums.old supplier share }
 {
     if (1..=32).contains(&supplier) {
-        sums[supplier as usize - 1] += share;
+        sums[usize::from(supplier) - 1] += share;
     }
 }
 

@@ -83,7 +83,7 @@ impl Basis {
     fn average_load(self, loss: LossFactor, figures: &[u32; 5]) -> Result<u64, Cause>
         ensures { result ≡ average_if_fits loss.value (bare self) figures.now }
     {
-        // One pass makes the sum and the number; a chain would need two.
+        // A `try_fold` over a pair is no plainer.
         let mut total: u64 = 0;
         let mut number: u64 = 0;
         for figure in figures {
@@ -112,6 +112,7 @@ impl PeakLine {
     }
 
     /// The cause for which the line, looked at by itself, is to be refused.
+    // `Line` has this and its `load` likewise: a trait for both types would be longer than their bodies of one line.
     pub fn cause(&self) -> Option<Cause>
         ensures { result ≡ peak_cause_of self.now }
     {

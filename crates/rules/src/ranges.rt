@@ -39,6 +39,13 @@ impl<const LOW: u32, const HIGH: u32> Within<LOW, HIGH> {
             Err(Cause::OutOfRange)
         }
     }
+
+    /// The figure, wide enough for products.
+    pub(crate) fn wide(self) -> u64
+        ensures { result ≡ self.entry.value }
+    {
+        u64::from(self.value)
+    }
 }
 
 impl Usage {
@@ -67,7 +74,7 @@ pub fn is_account(n: u32) -> bool
 pub(crate) fn in_ratio(billed: Usage, usage: ProfileUsage) -> Result<(), Cause>
     ensures { result ≡ ratio billed.value usage.value }
 {
-    if billed.value as u64 <= 100 * usage.value as u64 {
+    if billed.wide() <= 100 * usage.wide() {
         Ok(())
     } else {
         Err(Cause::UsageTooHigh)

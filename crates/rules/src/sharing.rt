@@ -38,6 +38,7 @@ pub(crate) fn within_most(first: u64, second: u64) -> bool
 }
 
 /// The weights of the two groups; refused if together they are above the most.
+// A pair, as in the definitions: every clause would take a struct apart.
 pub fn weigh<L: Weighted>(lines: &[L]) -> Result<(u64, u64), Refusal>
     ensures { result ≡ weighed (map L.in_first lines.now) (map L.in_second lines.now) }
 {

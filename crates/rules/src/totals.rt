@@ -9,6 +9,8 @@ use crate::sharing::{MOST, within_most};
 use refusals::{Cause, Layer, Refusal};
 
 /// Zone load less the sum of the loads.
+// No type carries `≤ most`, here and in `Pot`: it bounds different things (a total, a whole, a load, a signed part),
+// each by a check that the caller has just made.
 fn unaccounted_for(zone: u64, wi: u64, wp: u64) -> i64
     requires { (zone ≤ most) × (wi + wp ≤ most) }
     ensures value { result ≡ unaccounted zone wi wp }
