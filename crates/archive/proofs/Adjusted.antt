@@ -1,5 +1,5 @@
 -- What adjusting answers, case by case.
-use Rattle.std.proofs.Common.{◌≡◌, ℕ, ◌-◌, ◌<◌, ◌≤◌, Bool, true, false, cond, leb, List, length, get_or, ℤ, pos, ◌-ℤ◌, Ok, Err, Result, sym, refl, ap, ◌∙◌, arith}
+use Rattle.std.proofs.Common.{◌≡◌, ℕ, ◌-◌, ◌<◌, ◌≤◌, Bool, true, false, cond, leb, List, length, get_or, ℤ, pos, ◌-ℤ◌, Ok, Err, Result, sym, refl, ap, ap₂, ◌∙◌, arith}
 use Rattle.std.proofs.lemmas.List.FromFn.{get_or-map-range_with_len}
 use Rattle.std.proofs.lemmas.Bool.{le-leb, lt-leb}
 use Rattle.refusals.specs.declared.Refusal.{Refusal}
@@ -15,6 +15,10 @@ use Rattle.archive.proofs.Dues.{all_in_range_same, rows_for_same}
 pub sums_of_at : (k : Kind) (d h s : ℕ) (rs : List Row) → 1 ≤ s → s ≤ 32 → get_or (sums_of k d h rs) (s - 1) (pos 0) ≡ sum_of k d h s rs
 unfolding sums_of
 sums_of_at k d h s rs l m = get_or-map-range_with_len (λ t. sum_of k d h t rs) 1 32 (s - 1) s (pos 0) (omega arith) (omega arith)
+
+-- sums that were asked for by the slot's figures are those of the slot
+pub sums_asked : (slot : Slot) (rs : List Row) (sums : List ℤ) (d h : ℕ) → sums ≡ sums_of slot.kind d h rs → d ≡ slot.day → h ≡ slot.hour → sums ≡ sums_of slot.kind slot.day slot.hour rs
+sums_asked slot rs sums d h are p q = are ∙ ap₂ (λ d h. sums_of slot.kind d h rs) p q
 
 -- what is lacking by the sums of an archive's rows
 pub lacks_is : (slot : Slot) (wanted : List ℕ) (sums : List ℤ) (rs : List Row) → sums ≡ sums_of slot.kind slot.day slot.hour rs → (s : ℕ) → 1 ≤ s → s ≤ 32 → lacks wanted sums s ≡ due_to slot wanted rs s

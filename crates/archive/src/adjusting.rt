@@ -6,6 +6,7 @@ pub struct Slot {
     pub kind: Kind,
     pub day: u16,
     pub hour: u8,
+    // As wide as in a row's bytes; one out of range is refused by number.
     pub stage: u8,
 }
 

@@ -23,6 +23,7 @@ pub mod table;
 ///
 /// `memory` is the user's memory that the archive lies in (nothing, where it has its own), `lent` tells by which loan it
 /// has it, and `stamped` is that memory once a row is put at a position: so that a call can say all that it writes.
+// `meaning`, `memory` and `lent` are no record: each caller needs one alone, and a table has nothing in the last two.
 pub trait Archive {
     ghost meaning: { Self → Contents };
 

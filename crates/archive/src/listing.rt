@@ -11,6 +11,7 @@ mod text;
 
 use text::text_of;
 
+// Day and hour come in as plain figures and are refused by number, so there is no struct of them.
 fn is_listable(day: u32, hour: u32) -> bool
     ensures { result ≡ listable day hour }
 {

@@ -14,7 +14,7 @@ pub struct HourSums {
 fn is_in_hour(row: Row, kind: Kind, day: u32, hour: u32) -> bool
     ensures { result ≡ in_hour kind day hour row }
 {
-    row.kind == kind && row.day as u32 == day && row.hour as u32 == hour
+    row.kind == kind && u32::from(row.day) == day && u32::from(row.hour) == hour
 }
 
 impl HourSums {

@@ -4,7 +4,8 @@ ghost use Rattle.archive.specs.Packed.{all_lawful};
 use rows::Row;
 
 /// Up to 512 row records, in memory of its own.
-// The count stands beside the records: an `ArrayVec` asks a row that is one by default, and no row is.
+// The count stands beside the records: an `ArrayVec` asks `Default` of its items, and a row by default would be an
+// unlawful one.
 #[derive(Drop)]
 pub struct TableArchive {
     records: [Row; 512],

@@ -180,8 +180,8 @@ mod tests {
     #[test]
     fn a_full_table(rt: HostRuntime) {
         let mut records = TableArchive::new();
-        for supplier in 1..33 {
-            for hour in 1..17 {
+        for supplier in 1..=32 {
+            for hour in 1..=16 {
                 assert_eq!(rt;
                     records.append(row(Energy, 1, hour, 1, supplier, -1)),
                     Ok(())

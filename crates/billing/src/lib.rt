@@ -16,7 +16,7 @@ fn told(answer: Result<usize, Refusal>) -> i64
 {
     match answer {
         Ok(length) => length as i64,
-        Err(refusal) => -(refusal.cause.number() as i64),
+        Err(refusal) => -i64::from(refusal.cause.number()),
     }
 }
 

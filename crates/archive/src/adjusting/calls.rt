@@ -14,7 +14,7 @@ impl Slot {
     fn is_lawful(self) -> bool
         ensures { result ≡ lawful_slot self }
     {
-        is_day(self.day as u32) && self.kind.is_timely(self.hour, self.stage)
+        is_day(u32::from(self.day)) && self.kind.is_timely(self.hour, self.stage)
     }
 
     fn row(self, supplier: u8, amount: i64) -> Row
@@ -31,7 +31,8 @@ impl Slot {
     }
 }
 
-// What is wanted less the sum, if a row can hold it.
+// What is wanted less the sum, if a row can hold it or, being 0, needs none: so this range is not that of a row's
+// amount, which is never 0.
 fn due(wanted: u64, sum: i64) -> Option<i64>
     ensures { MatchOption result (in_range (pos wanted -ℤ sum) ≡ false) (λ z. (z ≡ pos wanted -ℤ sum) × (in_range (pos wanted -ℤ sum) ≡ true)) }
 {
@@ -47,6 +48,7 @@ fn dues(wanted: &[u64; 32], sums: &[i64; 32]) -> Option<[i64; 32]>
 {
     let mut all = [0; 32];
     for (i, (wanted, sum)) in wanted.iter().zip(sums).enumerate() {
+        // Of what a loop over `all.iter_mut().zip(..)` writes, a proof knows nothing.
         all[i] = due(*wanted, *sum)?;
     }
     Some(all)
@@ -102,7 +104,12 @@ pub fn adjust<A: Archive>(archive: &mut A, slot: Slot, wanted: &[u64; 32]) -> Re
     if !slot.is_lawful() {
         return Err(Refusal::new(Cause::UnlawfulRow, Layer::Archive));
     }
-    let sums = hour_sums(archive, slot.kind, slot.day as u32, slot.hour as u32);
+    let sums = hour_sums(
+        archive,
+        slot.kind,
+        u32::from(slot.day),
+        u32::from(slot.hour),
+    );
     let Some(all) = dues(wanted, &sums.suppliers) else {
         return Err(Refusal::new(Cause::AmountTooLarge, Layer::Archive));
     };

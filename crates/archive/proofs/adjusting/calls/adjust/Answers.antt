@@ -1,7 +1,7 @@
 use Rattle.std.proofs.Common.{rules, length, Ok, Err, sym, refl, ap, ◌∙◌, arith}
 use Rattle.archive.specs.Intake.{entered}
 use Rattle.archive.specs.Adjusting.{due_to, with_rows}
-use Rattle.archive.proofs.Adjusted.{lacks_is, unlawful_slot, too_large, no_place, all_placed, adjusted_by, found_rows, found_small, due_small}
+use Rattle.archive.proofs.Adjusted.{lacks_is, unlawful_slot, too_large, no_place, all_placed, adjusted_by, sums_asked, found_rows, found_small, due_small}
 use Rattle.archive.proofs.Bringing.{adjusting_law}
 use Rattle.archive.proofs.Dues.{all_in_range_same, rows_for_count}
 use Rattle.archive.proofs.adjusting.calls.adjust.Goals as goal
@@ -17,7 +17,8 @@ returns-in_default g c =
     let before = g.A.Archive.meaning c.args.archive.now in
     let slot = c.args.slot in
     let wanted = c.args.wanted.now in
-    let due = lacks_is slot wanted c.hour_sums-sums.result.suppliers before.rows c.hour_sums-sums.ensures.suppliers in
+    let are = sums_asked slot before.rows c.hour_sums-sums.result.suppliers _ _ c.hour_sums-sums.ensures.suppliers c.from.ensures c.from-2.ensures in
+    let due = lacks_is slot wanted c.hour_sums-sums.result.suppliers before.rows are in
     let a = ap Err c.new-in_default.ensures ∙ too_large before slot wanted (sym c.is_lawful.ensures ∙ c.if-not-is_lawful.false) (sym (all_in_range_same _ (due_to slot wanted before.rows) 32 due) ∙ c.in_default.ensures) in
     record { answer = a; after = adjusted_by before slot wanted _ a; memory = refl; lent = refl; law = adjusting_law }
 
@@ -27,9 +28,10 @@ returns-then-rows-free_places g c =
     let slot = c.args.slot in
     let wanted = c.args.wanted.now in
     let sums = c.hour_sums-sums.result.suppliers in
+    let are = sums_asked slot before.rows c.hour_sums-sums.result.suppliers _ _ c.hour_sums-sums.ensures.suppliers c.from.ensures c.from-2.ensures in
     let q = c.in-Some.ensures in
-    let rows = found_rows before slot wanted sums c.in-Some.all c.hour_sums-sums.ensures.suppliers q.1 in
-    let small = due_small before slot wanted sums c.in-Some.all c.hour_sums-sums.ensures.suppliers q.1 q.0 in
+    let rows = found_rows before slot wanted sums c.in-Some.all are q.1 in
+    let small = due_small before slot wanted sums c.in-Some.all are q.1 q.0 in
     let count = c.rows_needed-rows.ensures ∙ rows_for_count slot c.in-Some.all (search rules) ∙ ap length rows in
     let a = ap Err c.new-then-rows-free_places.ensures ∙ no_place before slot wanted (sym c.is_lawful.ensures ∙ c.if-not-is_lawful.false) small (omega (arith, count, c.free_places.ensures)) in
     record { answer = a; after = adjusted_by before slot wanted _ a; memory = refl; lent = refl; law = adjusting_law }
@@ -37,10 +39,11 @@ returns-then-rows-free_places g c =
 pub append_dues-requires : goal.append_dues-requires
 append_dues-requires g c =
     let before = g.A.Archive.meaning c.args.archive.now in
+    let are = sums_asked c.args.slot before.rows c.hour_sums-sums.result.suppliers _ _ c.hour_sums-sums.ensures.suppliers c.from.ensures c.from-2.ensures in
     let q = c.in-Some.ensures in
     record {
       slot = sym c.is_lawful.ensures ∙ c.if-not-is_lawful.false;
-      amounts = found_small before c.args.slot c.args.wanted.now c.hour_sums-sums.result.suppliers c.in-Some.all c.hour_sums-sums.ensures.suppliers q.1 q.0;
+      amounts = found_small before c.args.slot c.args.wanted.now c.hour_sums-sums.result.suppliers c.in-Some.all are q.1 q.0;
       room = omega (arith, c.rows_needed-rows.ensures ∙ rows_for_count c.args.slot c.in-Some.all (search rules), c.free_places.ensures);
     }
 
@@ -50,9 +53,10 @@ returns g c =
     let slot = c.args.slot in
     let wanted = c.args.wanted.now in
     let sums = c.hour_sums-sums.result.suppliers in
+    let are = sums_asked slot before.rows c.hour_sums-sums.result.suppliers _ _ c.hour_sums-sums.ensures.suppliers c.from.ensures c.from-2.ensures in
     let q = c.in-Some.ensures in
-    let rows = found_rows before slot wanted sums c.in-Some.all c.hour_sums-sums.ensures.suppliers q.1 in
-    let small = due_small before slot wanted sums c.in-Some.all c.hour_sums-sums.ensures.suppliers q.1 q.0 in
+    let rows = found_rows before slot wanted sums c.in-Some.all are q.1 in
+    let small = due_small before slot wanted sums c.in-Some.all are q.1 q.0 in
     let count = c.rows_needed-rows.ensures ∙ rows_for_count slot c.in-Some.all (search rules) ∙ ap length rows in
     let a = all_placed before slot wanted (sym c.is_lawful.ensures ∙ c.if-not-is_lawful.false) small (omega (arith, count, c.free_places.ensures)) in
     record {
