@@ -90,6 +90,9 @@ module _ (u : ℤ) (a b : ℕ) (small : unsigned_abs u ≤ most) (part : a ≤ b
       rw (back, a_is, b_is, to_z-of_z w64 (u *ℤ pos a) (product_fits u a small (omega arith)))
       (to_z-of_z w64 (portion u a b) (small-fits (portion u a b) (omega (arith, (portion-between u a b part).small))))
 
+  pub computed-small : unsigned_abs (to_z w64 (of_z w64 (int_div (to_z w64 (of_z w64 (to_z w64 (of_z w64 u) *ℤ to_z w64 a))) (to_z w64 b)))) ≤ unsigned_abs u
+  computed-small = rw computed (portion-between u a b part).small
+
   pub rest-fits : FitsSigned w64 (u -ℤ portion u a b)
   rest-fits = small-fits (u -ℤ portion u a b) (omega (arith, (rest_between u (portion u a b) (portion-between u a b part)).small))
 
