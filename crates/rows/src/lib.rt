@@ -74,7 +74,8 @@ pub fn is_supplier(supplier: u32) -> bool
 fn is_bookable(amount: i64) -> bool
     ensures { result ≡ bookable amount }
 {
-    (-3_000_000_000..=3_000_000_000).contains(&amount) && amount != 0
+    // With `contains` taking in and listing a row costs a tenth more.
+    -3_000_000_000 <= amount && amount <= 3_000_000_000 && amount != 0
 }
 
 impl Kind {
