@@ -1,6 +1,7 @@
 pub mod Contents
 pub mod Packed
 pub mod Held
+pub mod Holding
 pub mod Sums
 pub mod Intake
 pub mod Adjusting
