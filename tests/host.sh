@@ -44,6 +44,11 @@ compile() {
 }
 
 must "the library is proved and built" tools/build library
+
+# a host without a C library has to bring what the library asks for
+[ "$(nm -u "$library" | awk '$1 == "U" { print $2 }' | sort | tr '\n' ' ')" = "memcpy memset " ]
+told $? "the library asks for memcpy and memset alone"
+
 must "main.c compiles" compile main
 must "check.c compiles" compile check
 

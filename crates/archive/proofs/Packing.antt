@@ -1,12 +1,21 @@
 -- Rows that stand one after another in bytes.
 use Rattle.std.proofs.Common.{◌≡◌, ℕ, zero, suc, ◌*◌, ◌<◌, ◌≤◌, List, [], ◌∷◌, ◌++◌, length, take, drop, Some, Ok, Err, Result, sym, refl, ap, ◌∙◌, suc-mul, add_comm, arith, take-add}
-use Rattle.std.specs.List.{slice_get}
+use Rattle.std.specs.List.{slice_get, AllByRecursion}
 use Rattle.std.proofs.lemmas.List.{take_at, drop_at, append_assoc, length-take, length-drop, length-take-le, drop-drop}
 use Rattle.rows.specs.declared.Row.{Row}
 use Rattle.rows.specs.declared.Fault.{Fault}
+use Rattle.rows.specs.Lawful.{Lawful}
 use Rattle.rows.specs.Format.{reading}
 use Rattle.rows.proofs.Found.{found}
 use Rattle.archive.specs.Packed.{then_rows, rows_in}
+
+then_lawful : (x : Result Row Fault) (bs : List ℕ) (rs : List Row) → reading bs ≡ x → AllByRecursion Lawful rs → AllByRecursion Lawful (then_rows x rs)
+then_lawful (Ok r) bs rs e h = ((found bs r e).lawful, h)
+then_lawful (Err f) bs rs e h = tt
+
+pub rows_in-lawful : (n : ℕ) (bs : List ℕ) → AllByRecursion Lawful (rows_in n bs)
+rows_in-lawful zero bs = tt
+rows_in-lawful (suc n) bs = then_lawful (reading (take 15 bs)) (take 15 bs) _ refl (rows_in-lawful n (drop 15 bs))
 
 -- of n + 1 rows, the first was read, and n follow
 first-whole : (x : Result Row Fault) (rs : List Row) (n : ℕ) → length (then_rows x rs) ≡ suc n → (r : Row) × (x ≡ Ok r) × (length rs ≡ n)

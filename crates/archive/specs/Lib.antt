@@ -1,7 +1,6 @@
 pub mod Contents
 pub mod Packed
 pub mod Held
-pub mod Holding
 pub mod Sums
 pub mod Intake
 pub mod Adjusting

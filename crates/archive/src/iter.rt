@@ -1,7 +1,9 @@
 //! The rows of an archive, first to last.
-ghost use Rattle.std.specs.Prelude.{◌≡◌, ◌≤◌, List, length, drop};
+ghost use Rattle.std.specs.Prelude.{◌≡◌, ◌+◌, ◌≤◌, List, length, drop};
+ghost use Rattle.std.specs.List.{AllByRecursion};
 ghost use Rattle.std.specs.Iterator.{YieldsFirst, item_count};
 ghost use Rattle.rows.specs.declared.Row.{Row as RowT};
+ghost use Rattle.rows.specs.Lawful.{Lawful};
 
 use crate::Archive;
 use rows::Row;
@@ -37,7 +39,9 @@ impl<'a, A: Archive> Iterator for Rows<'a, A> {
 
 impl<'a, A: Archive> Rows<'a, A> {
     pub(crate) fn of(archive: &'a A) -> Self
-        ensures { result ≡ (A.meaning archive.now).rows }
+        ensures rows { result ≡ (A.meaning archive.now).rows }
+        ensures lawful { AllByRecursion Lawful (A.meaning archive.now).rows }
+        ensures few { length (A.meaning archive.now).rows + (A.meaning archive.now).free ≤ 1000000 }
     {
         Rows {
             archive,

@@ -23,7 +23,6 @@ pub mod table;
 ///
 /// `memory` is the user's memory that the archive lies in (nothing, where it has its own), `lent` tells by which loan it
 /// has it, and `stamped` is that memory once a row is put at a position: so that a call can say all that it writes.
-/// By its laws each row is `lawful`, and the rows and the free places are `few`.
 // `meaning`, `memory` and `lent` are no record: each caller needs one alone, and a table has nothing in the last two.
 pub trait Archive {
     ghost meaning: { Self → Contents };
@@ -55,15 +54,13 @@ pub trait Archive {
     fn row(&self, position: usize) -> Option<Row>
         ensures { result ≡ slice_get (meaning self.now).rows position };
 
-    ghost lawful: { (a : Self) → AllByRecursion Lawful (meaning a).rows };
-
-    ghost few: { (a : Self) → length (meaning a).rows + (meaning a).free ≤ 1000000 };
-
-    /// The rows, first to last.
+    /// The rows, first to last. What `count` says of them all holds here too.
     final fn rows(&self) -> Rows<'_, Self>
     where
         Self: Sized,
-        ensures { result ≡ (meaning self.now).rows }
+        ensures rows { result ≡ (meaning self.now).rows }
+        ensures lawful { AllByRecursion Lawful (meaning self.now).rows }
+        ensures few { length (meaning self.now).rows + (meaning self.now).free ≤ 1000000 }
     {
         Rows::of(self)
     }

@@ -3,7 +3,11 @@
 #![tactic(auto)]
 
 #[cfg(test)]
+mod one_row;
+
+#[cfg(test)]
 mod tests {
+    use crate::one_row::OneRow;
     use archive::Archive;
     use archive::bytes::ByteArchive;
     use archive::intake::take_in;
@@ -201,5 +205,15 @@ mod tests {
         );
         assert_eq!(rt; told(take_in(&mut records, &WORKED)), Some((27, 4, 0)));
         assert_eq!(rt; records.count(), 512);
+    }
+
+    #[test]
+    fn an_archive_of_another(rt: HostRuntime) {
+        let one = row(Energy, 9000, 1, 1, 7, 1);
+        let mut archive = OneRow::new(one).expect(&rt, "a lawful row");
+        let mut out = [9; 12];
+        assert_eq!(rt; list(&archive, 9000, 1, &mut out), Ok(11));
+        assert_eq!(rt; &out, b"7 1\nzone 1\n\x09");
+        assert_eq!(rt; told(take_in(&mut archive, &WORKED)), Some((27, 4, 0)));
     }
 }

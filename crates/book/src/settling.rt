@@ -122,6 +122,8 @@ pub(crate) fn settle<const STAGE: u8, R: Arrangement, A: Archive>(
     ensures settled { OnOk result (Settled (hour_of (R.Arrangement.meaning arrangement.now) slip.old hour zone_load sheet.now roster.now.entries) (A.Archive.meaning archive.old).rows (A.Archive.meaning archive.new).rows) }
     ensures law { SettlingLaw }
 {
+    // What an archive holds is lawful: its count says so.
+    let _held = archive.count();
     let owed = hour_owed(
         slip,
         hour,

@@ -9,6 +9,8 @@ use Rattle.nookplover.specs.declared.answer.Answer.{Answer}
 use Rattle.nookplover.specs.declared.answer.Answer.TheVariants.{Accepted, Waiting, Taken, Listed, Held}
 use Rattle.nookplover.specs.declared.answer.Denial.{Denial}
 use Rattle.nookplover.specs.declared.answer.Denial.TheVariants.{NoSlip, Refused}
+use Rattle.nookplover.specs.declared.slips.Open.{Open as OpenSlip}
+use Rattle.nookplover.specs.declared.slips.Open.TheVariants.{Estimate, Reconciliation}
 use Rattle.nookplover.specs.Numerals.{hex_of}
 
 -- a space and a number
@@ -65,3 +67,8 @@ answer_line (Held rows) = rows_line rows
 abbrev pub denial_line : Denial → List ℕ
 denial_line NoSlip = codes "no slip" ++ 10 ∷ []
 denial_line (Refused refusal) = refused_line refusal
+
+-- the line of a slip that is open at the end
+abbrev pub open_line : OpenSlip → List ℕ
+open_line (Estimate slip) = worded (codes "open at end") (slip.day ∷ 1 ∷ []) ++ 10 ∷ []
+open_line (Reconciliation slip) = worded (codes "open at end") (slip.day ∷ 2 ∷ []) ++ 10 ∷ []

@@ -2,6 +2,7 @@
 use crate::answer::{Answer, Denial};
 use crate::call::Call;
 use crate::print::{End, Hex};
+use crate::printer::Printer;
 use crate::slips::Slips;
 use archive::Archive;
 use archive::intake::take_in;
@@ -95,45 +96,54 @@ impl<'a, A: Archive> Desk<'a, A> {
     }
 
     // Prints what an answer is about: the listing, or the archive's rows.
-    fn print_after<W: Write>(&self, answer: Answer, output: &mut W) -> io::Result<()> {
+    fn print_after<W: Write>(&self, answer: Answer, printer: &mut Printer<W>) -> io::Result<()> {
         match answer {
-            Answer::Listed(length) => output.write_all(&self.listing[..length.min(LISTING)]),
+            Answer::Listed(length) => printer.put(&self.listing[..length.min(LISTING)])?,
             Answer::Held(_) => {
                 for row in self.archive.rows() {
-                    writeln!(output, "{}", Hex(&row.to_bytes()))?;
+                    printer.show(Hex(&row.to_bytes()))?;
+                    printer.put(b"\n")?;
                 }
-                Ok(())
             }
-            _ => Ok(()),
+            _ => {}
         }
+        Ok(())
     }
 
     // Prints what is open at the end, and what archive and roster hold. Days rise as they are opened, so the order of
     // the days is the order of opening.
-    fn print_end<W: Write>(&self, output: &mut W) -> io::Result<()> {
+    fn print_end<W: Write>(&self, printer: &mut Printer<W>) -> io::Result<()> {
         for open in self.slips.places().iter().flatten() {
-            writeln!(output, "{open}")?;
+            printer.show(open)?;
         }
         let end = End {
             rows: self.archive.count(),
             free: self.archive.free_places(),
             entries: self.roster.count(),
         };
-        write!(output, "{end}")
+        printer.show(end)?;
+        Ok(())
     }
 
     /// Makes every call and prints what it answered, and at the end what is then open, and what archive and roster hold.
-    pub(crate) fn run<W: Write>(&mut self, calls: &[Call], output: &mut W) -> io::Result<()> {
+    pub(crate) fn run<W: Write>(
+        &mut self,
+        calls: &[Call],
+        printer: &mut Printer<W>,
+    ) -> io::Result<()> {
         for call in calls {
+            printer.show(call)?;
+            printer.put(b" -> ")?;
             match self.make(call) {
                 Ok(answer) => {
-                    write!(output, "{call} -> {answer}")?;
-                    self.print_after(answer, output)?;
+                    printer.show(answer)?;
+                    self.print_after(answer, printer)?;
                 }
-                Err(denial) => write!(output, "{call} -> {denial}")?,
+                Err(denial) => printer.show(denial)?,
             }
+            printer.write_much()?;
         }
-        self.print_end(output)?;
-        output.flush()
+        self.print_end(printer)?;
+        printer.write()
     }
 }

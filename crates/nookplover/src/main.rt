@@ -8,7 +8,8 @@ use book::{Entry, Roster};
 use call::Holding;
 use desk::Desk;
 use journal::{Journal, Unreadable, read_journal};
-use std::io::{BufWriter, Read};
+use printer::Printer;
+use std::io::Read;
 use std::process::ExitCode;
 use std::{env, fmt, fs, io};
 
@@ -18,11 +19,9 @@ mod desk;
 mod journal;
 mod line;
 mod print;
+mod printer;
 mod scan;
 mod slips;
-
-// Text that waits is written once there is so much of it.
-const WAITING: usize = 65_536;
 
 /// Where the journal comes from.
 // No Option of a name: each is a place to read from, and neither is a missing one.
@@ -82,9 +81,9 @@ fn read_all(rt: &HostRuntime, source: &Source) -> io::Result<Vec<u8>> {
 fn run_on<A: Archive>(rt: &HostRuntime, journal: &Journal, archive: &mut A) -> io::Result<()> {
     let heap = rt.alloc();
     let mut entries = vec![in heap; Entry::default(); journal.roster as usize]?;
-    let mut output = BufWriter::with_capacity(heap, WAITING, rt.stdout())?;
+    let mut printer = Printer::new(heap, rt.stdout())?;
     let mut desk = Desk::new(heap, Roster::new(&mut entries), archive)?;
-    let ran = desk.run(&journal.calls, &mut output);
+    let ran = desk.run(&journal.calls, &mut printer);
     desk.close();
     ran
 }

@@ -1,7 +1,9 @@
 //! The slips that are open, each at the place of its day.
-ghost use Rattle.std.specs.Prelude.{◌≡◌};
+ghost use Rattle.std.specs.Prelude.{◌≡◌, Some};
+ghost use Rattle.nookplover.specs.Texts.{open_line};
 
 use crate::answer::Denial;
+use crate::print::write_words;
 use book::Slip;
 use std::alloc::{AllocError, Global};
 use std::{fmt, mem};
@@ -35,11 +37,15 @@ fn end(open: Option<Open>) {
 }
 
 impl fmt::Display for Open {
+    ghost output = { λ o. Some (open_line o) };
+
     fn fmt<W: fmt::Write>(&self, f: &mut fmt::Formatter<W>) -> fmt::Result {
-        match self {
-            Open::Estimate(slip) => write!(f, "open at end {} 1", slip.day()),
-            Open::Reconciliation(slip) => write!(f, "open at end {} 2", slip.day()),
-        }
+        let (day, stage) = match self {
+            Open::Estimate(slip) => (slip.day(), 1),
+            Open::Reconciliation(slip) => (slip.day(), 2),
+        };
+        write_words(f, "open at end", &[u64::from(day), stage])?;
+        f.write_str("\n")
     }
 }
 

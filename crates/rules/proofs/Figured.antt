@@ -8,13 +8,12 @@ use Rattle.std.proofs.lemmas.Bool.{and_from, cond_both, cond-true, cond-false, a
 use Rattle.std.proofs.lemmas.Bool.Decides.{nat_tests}
 use Rattle.std.specs.Result.{IsErrAnd, result_err, result_unwrap_or}
 use Rattle.std.proofs.lemmas.Result.{err_from_is_err_and}
-use Rattle.rules.specs.Ranges.{is_account, between, missing, is_loss_factor, is_usage, is_profile_usage, is_reading, is_coincidence}
+use Rattle.rules.specs.Ranges.{is_account, between, missing, is_loss_factor, is_usage, is_profile_usage, is_reading, is_coincidence, verdict}
 use Rattle.rules.specs.Loads.{rounded}
-use Rattle.rules.specs.Peaks.{Basis, Readings, Profile, Demand, is_present, cause_on, weight_on, in_range_on, usage_fits_on, further_fits, figure_fits, all_fit, figure_load, average_load}
+use Rattle.rules.specs.Peaks.{Basis, Readings, Profile, Demand, basis_of, is_present, peak_cause_of, cause_on, weight_of, weight_on, in_range_on, usage_fits_on, further_fits, figure_fits, all_fit, figure_load, average_load}
 use Rattle.rules.specs.declared.peaks.Basis.{Basis as BasisT}
 use Rattle.rules.specs.declared.peaks.Basis.TheVariants as kept
-use Rattle.rules.specs.Bases.{bare, load_if_fits, if_further_fits, average_if_fits, ratio_on}
-use Rattle.rules.specs.Within.{in_bounds}
+use Rattle.rules.specs.Bases.{bare, load_if_fits, if_further_fits, average_if_fits, ratio_on, with_loss, based}
 use Rattle.rules.specs.declared.peaks.PeakLine.{PeakLine}
 use Rattle.refusals.specs.declared.Cause.{Cause}
 use Rattle.refusals.specs.declared.Cause.TheVariants.{OutOfRange, UsageTooHigh}
@@ -90,41 +89,70 @@ kept_fits kept.Readings = refl
 kept_fits (kept.Profile billed usage) = and_from (is_usage billed.value) (is_profile_usage usage.value) (below billed.value billed.ok) usage.ok
 kept_fits (kept.Demand highest) = below highest.value highest.ok
 
--- what a line of the basis b, in range and in ratio, weighs
-pub weighs : (l : PeakLine) (o : Option Basis) (b : Basis) (account loss n : ℕ) → Ok account ≡ in_bounds 1 999999999 l.account → Ok loss ≡ in_bounds 10000 20000 l.loss_factor →
-    Ok b ≡ if_further_fits o → Ok n ≡ average_if_fits loss b l.figures → Ok tt ≡ ratio_on b → n ≡ weight_on l o
-weighs l None b account loss n p q r s t = cc
-weighs l (Some d) b account loss n p q r s t =
-    let known = passed (is_account l.account) account l.account OutOfRange p in
-    let factor = passed (is_loss_factor l.loss_factor) loss l.loss_factor OutOfRange q in
-    let further = passed (further_fits d) b d OutOfRange r in
-    let average = passed (all_fit b l.figures) n (average_load loss b l.figures) OutOfRange s in
-    let ratio = passed (usage_fits_on b) tt tt UsageTooHigh t in
-    let yes : (in_range_on l d && usage_fits_on d) ≡ true = grind arith in
-    average.1 ∙ ap (λ f. average_load f b l.figures) factor.1 ∙ ap (λ y. average_load l.loss_factor y l.figures) further.1 ∙ sym (cond-true _ _ _ yes)
+-- what the answer `based` tells of a line
+module _ (w : ℕ) (d : Basis) where
+  further_split : (f : Bool) (loss : ℕ) (b : Basis) → Ok (loss, b) ≡ with_loss w (cond f (Ok d) (Err OutOfRange)) → (f ≡ true) × (loss ≡ w) × (b ≡ d)
+  further_split true loss b e = (refl, ap (λ (r : Result (ℕ × Basis) Cause). (result_unwrap_or r (w, d)).0) e, ap (λ (r : Result (ℕ × Basis) Cause). (result_unwrap_or r (w, d)).1) e)
+  further_split false loss b e = cc
 
--- what a refusal tells that a test decides
-failed : {X : Type 0} (t : Bool) (y : X) (e d : Cause) → Err e ≡ cond t (Ok y) (Err d) → (t ≡ false) × (e ≡ d)
-failed true y e d h = cc
-failed false y e d h = (refl, cc)
+  refused_split : (t f : Bool) (e : Cause) → Err e ≡ cond t (with_loss w (cond f (Ok d) (Err OutOfRange))) (Err OutOfRange) → (e ≡ OutOfRange) × ((t && f) ≡ false)
+  refused_split true true e h = cc
+  refused_split true false e h = (cc, refl)
+  refused_split false f e h = (cc, refl)
 
--- a line that is out of range on what its kind makes of it
-out_of_range : (l : PeakLine) (o : Option Basis) (r : Result ℕ Cause) → r ≡ Err OutOfRange → ((b : Basis) → o ≡ Some b → in_range_on l b ≡ false) →
-    (result_err r ≡ cause_on l o) × (result_unwrap_or r 0 ≡ weight_on l o)
-out_of_range l None r e out = rw e (refl, refl)
-out_of_range l (Some b) r e out = rw (e, out b refl) (refl, refl)
+based_split : (t : Bool) (w : ℕ) (o : Option Basis) (loss : ℕ) (b : Basis) → Ok (loss, b) ≡ cond t (with_loss w (if_further_fits o)) (Err OutOfRange) →
+    (t ≡ true) × (loss ≡ w) × (o ≡ Some b) × (further_fits b ≡ true)
+based_split false w o loss b e = cc
+based_split true w None loss b e = cc
+based_split true w (Some d) loss b e =
+    let p = further_split w d (further_fits d) loss b e in
+    (refl, p.1, ap Some (sym p.2), ap further_fits p.2 ∙ p.0)
 
-pub loss_out_of_range : (l : PeakLine) (o : Option Basis) (r : Result ℕ Cause) (e : Cause) → Err e ≡ in_bounds 10000 20000 l.loss_factor → IsErrAnd r (λ x. x ≡ e) →
-    (result_err r ≡ cause_on l o) × (result_unwrap_or r 0 ≡ weight_on l o)
-loss_out_of_range l o r e h is =
-    let no = failed (is_loss_factor l.loss_factor) l.loss_factor e OutOfRange h in
+-- A line of a basis that was found: its figures alone decide whether it is in range.
+pub record Found (l : PeakLine) (loss : ℕ) (b : Basis) : Type 0 where
+  pub basis : basis_of l ≡ Some b
+  pub factor : loss ≡ l.loss_factor
+  pub ranged : in_range_on l b ≡ all_fit b l.figures
+
+found : (l : PeakLine) (loss : ℕ) (b : Basis) → Ok (loss, b) ≡ based l → Found l loss b
+found l loss b e =
+    let p = based_split (is_account l.account && is_loss_factor l.loss_factor) l.loss_factor (basis_of l) loss b e in
+    let parts = and_parts (is_account l.account) (is_loss_factor l.loss_factor) p.0 in
+    record { basis = p.2; factor = p.1; ranged = rw (parts.0, parts.1, p.3) refl }
+
+unwrapped : (t : Bool) (n : ℕ) (e : Cause) → result_unwrap_or (cond t (Ok n) (Err e)) 0 ≡ cond (t && true) n 0
+unwrapped true n e = refl
+unwrapped false n e = refl
+
+-- what a line weighs whose billed usage is not too high
+pub weighs : (l : PeakLine) (loss : ℕ) (b : Basis) (r : Result ℕ Cause) → Ok (loss, b) ≡ based l → Ok tt ≡ ratio_on b → r ≡ average_if_fits loss b l.figures →
+    result_unwrap_or r 0 ≡ weight_of l
+weighs l loss b r h ratio is =
+    let f = found l loss b h in
+    let usage = (passed (usage_fits_on b) tt tt UsageTooHigh ratio).0 in
+    let line : weight_on l (Some b) ≡ cond (all_fit b l.figures && true) (average_load loss b l.figures) 0 = rw (f.ranged, usage, f.factor) refl in
+    ap (λ x. result_unwrap_or x 0) is ∙ unwrapped (all_fit b l.figures) (average_load loss b l.figures) OutOfRange ∙ sym (ap (weight_on l) f.basis ∙ line)
+
+out_of_range : (a w f x : Bool) → ((a && w) && f) ≡ false → (a && (w && (f && x))) ≡ false
+out_of_range false w f x e = refl
+out_of_range true false f x e = refl
+out_of_range true true false x e = refl
+out_of_range true true true x e = cc
+
+nothing_else : (t : Bool) (w : ℕ) (e : Cause) → Err e ≡ cond t (with_loss w (Err OutOfRange)) (Err OutOfRange) → e ≡ OutOfRange
+nothing_else true w e h = cc
+nothing_else false w e h = cc
+
+without_basis : (l : PeakLine) (o : Option Basis) (e : Cause) → Err e ≡ cond (is_account l.account && is_loss_factor l.loss_factor) (with_loss l.loss_factor (if_further_fits o)) (Err OutOfRange) →
+    Some e ≡ cause_on l o
+without_basis l None e h = ap Some (nothing_else (is_account l.account && is_loss_factor l.loss_factor) l.loss_factor e h)
+without_basis l (Some d) e h =
+    let p = refused_split l.loss_factor d (is_account l.account && is_loss_factor l.loss_factor) (further_fits d) e h in
+    let out = out_of_range (is_account l.account) (is_loss_factor l.loss_factor) (further_fits d) (all_fit d l.figures) p.1 in
+    ap Some p.0 ∙ sym (ap (λ t. verdict t (usage_fits_on d)) out)
+
+-- the cause of a line of which no basis was found
+pub not_based : (l : PeakLine) (r : Result (Unit {0}) Cause) (e : Cause) → Err e ≡ based l → IsErrAnd r (λ x. x ≡ e) → result_err r ≡ peak_cause_of l
+not_based l r e h is =
     let p = err_from_is_err_and r is in
-    out_of_range l o r (p.1 ∙ ap Err (p.2 ∙ no.1)) (λ b q. grind (arith, no.0))
-
-pub basis_out_of_range : (l : PeakLine) (o : Option Basis) (r : Result ℕ Cause) (e : Cause) → Err e ≡ if_further_fits o → IsErrAnd r (λ x. x ≡ e) →
-    (result_err r ≡ cause_on l o) × (result_unwrap_or r 0 ≡ weight_on l o)
-basis_out_of_range l None r e h is = let p = err_from_is_err_and r is in let d : e ≡ OutOfRange = cc in out_of_range l None r (p.1 ∙ ap Err (p.2 ∙ d)) (λ b q. cc)
-basis_out_of_range l (Some b) r e h is =
-    let no = failed (further_fits b) b e OutOfRange h in
-    let p = err_from_is_err_and r is in
-    out_of_range l (Some b) r (p.1 ∙ ap Err (p.2 ∙ no.1)) (λ d q. let same : b ≡ d = cc in grind (arith, no.0))
+    ap result_err (p.1 ∙ ap Err p.2) ∙ without_basis l (basis_of l) e h

@@ -73,7 +73,7 @@ small-fits : (z : ℤ) → unsigned_abs z ≤ most → FitsSigned w64 z
 small-fits z p = omega (arith, ints)
 
 module _ (u : ℤ) (a b : ℕ) (small : unsigned_abs u ≤ most) (part : a ≤ b) (limit : b ≤ most) where
-  pub back : to_z w64 (of_z w64 u) ≡ u
+  back : to_z w64 (of_z w64 u) ≡ u
   back = to_z-of_z w64 u (small-fits u small)
 
   a_is : to_z w64 a ≡ pos a
@@ -92,9 +92,3 @@ module _ (u : ℤ) (a b : ℕ) (small : unsigned_abs u ≤ most) (part : a ≤ b
 
   pub computed-small : unsigned_abs (to_z w64 (of_z w64 (int_div (to_z w64 (of_z w64 (to_z w64 (of_z w64 u) *ℤ to_z w64 a))) (to_z w64 b)))) ≤ unsigned_abs u
   computed-small = rw computed (portion-between u a b part).small
-
-  pub rest-fits : FitsSigned w64 (u -ℤ portion u a b)
-  rest-fits = small-fits (u -ℤ portion u a b) (omega (arith, (rest_between u (portion u a b) (portion-between u a b part)).small))
-
-  pub rest_is : to_z w64 (of_z w64 (u -ℤ portion u a b)) ≡ u -ℤ portion u a b
-  rest_is = to_z-of_z w64 (u -ℤ portion u a b) rest-fits

@@ -32,14 +32,25 @@ pub fn can_part(unaccounted: i64, interval: u64, profiled: u64) -> bool
     within_most(interval, profiled) && unaccounted.unsigned_abs() <= MOST
 }
 
-/// u × a / b, rounded toward zero, and the rest of u.
+/// u × a / b, rounded toward zero.
+fn portion_of(u: i64, a: u64, b: u64) -> i64
+    requires small { unsigned_abs u ≤ most }
+    requires part { a ≤ b }
+    requires limit { b ≤ most }
+    ensures value { result ≡ portion u a b }
+    ensures small { unsigned_abs result ≤ unsigned_abs u }
+{
+    if b == 0 { 0 } else { u * a as i64 / b as i64 }
+}
+
+/// The same, and the rest of u.
 fn portion_and_rest(u: i64, a: u64, b: u64) -> (i64, i64)
     requires small { unsigned_abs u ≤ most }
     requires part { a ≤ b }
     requires limit { b ≤ most }
     ensures { result ≡ (portion u a b, u -ℤ portion u a b) }
 {
-    let part = if b == 0 { 0 } else { u * a as i64 / b as i64 };
+    let part = portion_of(u, a, b);
     (part, u - part)
 }
 

@@ -2,7 +2,7 @@
 ghost use Rattle.std.specs.Prelude.{◌≡◌};
 ghost use Rattle.std.specs.Result.{result_err, result_unwrap_or};
 ghost use Rattle.rules.specs.Peaks.{basis_by, peak_cause_of, weight_of, no_weight, power};
-ghost use Rattle.rules.specs.Bases.{bare, basis_in, if_further_fits, ratio_on, load_if_fits, average_if_fits};
+ghost use Rattle.rules.specs.Bases.{bare, basis_in, if_further_fits, ratio_on, load_if_fits, average_if_fits, based, based_in};
 
 use crate::loads::{demand_load, interval_load, profiled_load};
 use crate::ranges::{Account, Coincidence, LossFactor, ProfileLoad, ProfileUsage, Usage, in_ratio};
@@ -78,7 +78,7 @@ impl Basis {
         }
     }
 
-    // Inlined, with `figured`, so that `cause` divides nothing.
+    // Inlined, with its callers, so that `cause` divides nothing.
     #[inline(always)]
     fn average_load(self, loss: LossFactor, figures: &[u32; 5]) -> Result<u64, Cause>
         ensures { result ≡ average_if_fits loss.value (bare self) figures.now }
@@ -97,18 +97,35 @@ impl Basis {
 }
 
 impl PeakLine {
-    /// The line's weight, or the cause for which it is to be refused.
+    /// The loss factor, and what the kind makes of the figures: refused if account, loss factor, kind or a further number
+    /// is not in range.
     #[inline(always)]
-    fn figured(&self) -> Result<u64, Cause>
-        ensures cause { result_err result ≡ peak_cause_of self.now }
-        ensures weight { result_unwrap_or result 0 ≡ weight_of self.now }
+    fn based(&self) -> Result<(LossFactor, Basis), Cause>
+        ensures { based_in result ≡ based self.now }
     {
         Account::new(self.account)?;
         let loss = LossFactor::new(self.loss_factor)?;
         let basis = Basis::by_kind(self.kind, self.usage, self.profile_usage)?;
-        let average = basis.average_load(loss, &self.figures)?;
+        Ok((loss, basis))
+    }
+
+    #[inline(always)]
+    fn checked(&self) -> Result<(), Cause>
+        ensures { result_err result ≡ peak_cause_of self.now }
+    {
+        let (loss, basis) = self.based()?;
+        basis.average_load(loss, &self.figures)?;
+        basis.in_ratio()
+    }
+
+    // No load is made of a line whose billed usage is too high.
+    #[inline(always)]
+    fn weighed(&self) -> Result<u64, Cause>
+        ensures { result_unwrap_or result 0 ≡ weight_of self.now }
+    {
+        let (loss, basis) = self.based()?;
         basis.in_ratio()?;
-        Ok(average)
+        basis.average_load(loss, &self.figures)
     }
 
     /// The cause for which the line, looked at by itself, is to be refused.
@@ -116,14 +133,14 @@ impl PeakLine {
     pub fn cause(&self) -> Option<Cause>
         ensures { result ≡ peak_cause_of self.now }
     {
-        self.figured().err()
+        self.checked().err()
     }
 
     /// The average of the line's present loads; 0 with none present, or if it has a cause to be refused.
     pub fn weight(&self) -> Power
         ensures { result ≡ power (weight_of self.now) }
     {
-        Power(self.figured().unwrap_or(0))
+        Power(self.weighed().unwrap_or(0))
     }
 }
 

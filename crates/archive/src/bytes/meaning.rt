@@ -2,7 +2,6 @@ ghost use Rattle.std.specs.Prelude.{◌≡◌, ℕ, ◌+◌, ◌-◌, ◌*◌, �
 ghost use Rattle.archive.specs.Contents.{Contents, contents};
 ghost use Rattle.archive.specs.Packed.{rows_in, places, put};
 ghost use Rattle.archive.specs.Held.{byte_contents};
-ghost use Rattle.archive.specs.Holding.{rows_in-lawful, bytes_few};
 
 use super::ByteArchive;
 use crate::{Archive, admit};
@@ -34,10 +33,6 @@ impl<'a> Archive for ByteArchive<'a> {
     ghost lent = { λ s. s.memory.ghost_name };
 
     ghost stamped = { put };
-
-    ghost lawful = { λ a. rows_in-lawful a.used a.memory.now };
-
-    ghost few = { bytes_few };
 
     fn append(&mut self, row: Row) -> Result<(), Refusal> {
         admit(row, self.free_places())?;

@@ -12,7 +12,9 @@ use itoa::Buffer;
 pub(crate) type Text = ArrayString<720>;
 
 // Appends a line `name sum`; not by `write!`, which by its contract may fail, and then the listing's answer would not be
-// known.
+// known. Inlined, so that it is plain that name and text do not overlap: a copy that might overlap would have the library
+// for C hosts ask its host for one more function.
+#[inline(always)]
 fn push_line(text: &mut Text, name: &str, sum: i64)
     requires { array_string_len text.old + length name.now + 1 + length (signed_decimal sum) + 1 ≤ 720 }
     ensures { text.new.bytes ≡ text.old.bytes ++ (name.now ++ (32 ∷ (signed_decimal sum ++ 10 ∷ []))) }

@@ -1,7 +1,6 @@
 ghost use Rattle.std.specs.Prelude.{◌≡◌, ℕ, ◌+◌, ◌-◌, ◌≤◌, List, [], length};
 ghost use Rattle.archive.specs.Contents.{Contents, contents};
 ghost use Rattle.archive.specs.Held.{table_contents};
-ghost use Rattle.archive.specs.Holding.{all_from_test, table_few};
 
 use super::TableArchive;
 use crate::{Archive, admit};
@@ -36,10 +35,6 @@ impl Archive for TableArchive {
     ghost lent = { λ _. 0 };
 
     ghost stamped = { λ memory _ _. memory };
-
-    ghost lawful = { λ t. all_from_test _ t.lawful };
-
-    ghost few = { table_few };
 
     fn append(&mut self, row: Row) -> Result<(), Refusal> {
         admit(row, self.free_places())?;

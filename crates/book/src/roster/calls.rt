@@ -1,5 +1,5 @@
 //! Enrol, switch and drop.
-ghost use Rattle.std.specs.Prelude.{◌≡◌, true, Ok};
+ghost use Rattle.std.specs.Prelude.{◌≡◌, ◌≤◌, true, length, Ok};
 ghost use Rattle.book.specs.Entries.{added};
 ghost use Rattle.book.specs.Calls.{has_place, admitting, timing, if_ok, enrolling, switching, dropping, to_enrol, to_switch, to_drop, after_call};
 
@@ -13,6 +13,7 @@ impl<'a> Roster<'a> {
     pub fn enrol(&mut self, book: &Book, entry: Entry) -> Result<(), Refusal>
         ensures answer { result ≡ enrolling book.now.last_opened self.old entry.account entry.from_day entry.supplier }
         ensures after { self.new ≡ after_call self.old (to_enrol book.now.last_opened entry.account entry.from_day entry.supplier) }
+        ensures few { length self.new.entries ≤ 65536 }
     {
         self.admit(entry.is_in_range())?;
         let last = self.last_entry(entry.account, None);
@@ -27,6 +28,7 @@ impl<'a> Roster<'a> {
     pub fn switch(&mut self, book: &Book, entry: Entry) -> Result<(), Refusal>
         ensures answer { result ≡ switching book.now.last_opened self.old entry.account entry.from_day entry.supplier }
         ensures after { self.new ≡ after_call self.old (to_switch book.now.last_opened entry.account entry.from_day entry.supplier) }
+        ensures few { length self.new.entries ≤ 65536 }
     {
         self.admit(entry.is_in_range())?;
         let last = self.last_entry(entry.account, None);
@@ -40,6 +42,7 @@ impl<'a> Roster<'a> {
     pub fn drop(&mut self, book: &Book, account: u32, from_day: u32) -> Result<(), Refusal>
         ensures answer { result ≡ dropping book.now.last_opened self.old account from_day }
         ensures after { self.new ≡ after_call self.old (to_drop book.now.last_opened account from_day) }
+        ensures few { length self.new.entries ≤ 65536 }
     {
         let entry = Entry {
             account,
@@ -54,10 +57,12 @@ impl<'a> Roster<'a> {
 
     /// The checks that come first: the figures are within their ranges, and a place is left.
     fn admit(&self, in_range: bool) -> Result<(), Refusal>
-        ensures { result ≡ admitting self.now in_range (Ok tt) }
+        ensures answer { result ≡ admitting self.now in_range (Ok tt) }
+        ensures few { length self.now.entries ≤ 65536 }
     {
+        let has_place = self.has_place();
         check(in_range, Cause::OutOfRange)?;
-        check(self.has_place(), Cause::RosterFull)
+        check(has_place, Cause::RosterFull)
     }
 
     /// Puts an entry last if its from-day is after that of the account's last entry and after the last opened day.
@@ -65,6 +70,7 @@ impl<'a> Roster<'a> {
         requires { has_place self.old ≡ true }
         ensures answer { result ≡ timing book.now.last_opened last entry.from_day }
         ensures after { self.new ≡ if_ok result (added self.old entry) self.old }
+        ensures few { length self.new.entries ≤ 65536 }
     {
         let is_after = last.is_none_or(|before| before.from_day < entry.from_day);
         check(is_after, Cause::NotAfterLastEntry)?;

@@ -25,6 +25,7 @@ impl<'a> Roster<'a> {
     /// The supplier of an account on a day, if somebody serves it. The last entry that fits decides.
     pub fn supplier_on(&self, account: u32, day: u32) -> Option<u8>
         ensures answer { result ≡ somebody (supplier_on account day self.now.entries) }
+        ensures few { length self.now.entries ≤ 65536 }
         ensures last { LastDecides }
     {
         self.last_entry(account, Some(day))

@@ -1,5 +1,5 @@
 //! The suppliers of a whole sheet in one pass over the entries.
-ghost use Rattle.std.specs.Prelude.{◌≡◌, map, length};
+ghost use Rattle.std.specs.Prelude.{◌≡◌, ◌≤◌, map, length};
 ghost use Rattle.book.specs.Rising.{Rising};
 ghost use Rattle.book.specs.Sheets.{suppliers_on, lines_told, table_on};
 
@@ -13,6 +13,7 @@ impl<'a> Roster<'a> {
     pub fn suppliers<L: Accounted>(&self, lines: &[L], day: u32, table: &mut [u8]) -> usize
         ensures answer { result ≡ lines_told (map L.account_of lines.now) table.old }
         ensures after { table.new ≡ table_on day self.now.entries (map L.account_of lines.now) table.old }
+        ensures few { length self.now.entries ≤ 65536 }
     {
         let n = rising_front(lines).min(table.len());
         self.enter_suppliers(&lines[..n], day, &mut table[..n]);
@@ -23,7 +24,8 @@ impl<'a> Roster<'a> {
     fn enter_suppliers<L: Accounted>(&self, lines: &[L], day: u32, table: &mut [u8])
         requires long { length table.old ≡ length lines.now }
         requires rises { Rising (map L.account_of lines.now) }
-        ensures { table.new ≡ suppliers_on day self.now.entries (map L.account_of lines.now) }
+        ensures after { table.new ≡ suppliers_on day self.now.entries (map L.account_of lines.now) }
+        ensures few { length self.now.entries ≤ 65536 }
     {
         table.fill(0);
         for entry in &self.memory[..self.count] {

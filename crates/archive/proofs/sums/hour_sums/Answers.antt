@@ -7,15 +7,15 @@ use Rattle.archive.proofs.sums.hour_sums.Goals as goal
 
 pub loop-row-init : goal.loop-row-init
 loop-row-init g c =
-    (c.into_iter-row-iterator.ensures.into_iter_gives ∙ c.rows-row-items.ensures, summed_none c.args.kind c.args.day c.args.hour)
+    (c.into_iter-row-iterator.ensures.into_iter_gives ∙ c.rows-row-items.ensures.rows, summed_none c.args.kind c.args.day c.args.hour)
 
 pub add-requires : goal.add-requires
 add-requires g c =
     let rows = (g.A.Archive.meaning c.args.archive.now).rows in
     let r = c.in-Some.row in
-    let few : length rows ≤ 1000000 = omega (arith, g.met.A.Archive.few c.args.archive.now) in
+    let few : length rows ≤ 1000000 = omega (arith, c.rows-row-items.ensures.few) in
     let order = ap (λ t. c.loop-row.yielded ++ t) (sym c.in-Some.ensures.steps) ∙ c.loop-row.invariant.0 in
-    let lawful = g.met.A.Archive.lawful c.args.archive.now in
+    let lawful = c.rows-row-items.ensures.lawful in
     let law = row_lawful c.args.kind c.args.day c.args.hour rows c.loop-row.yielded r c.next.new.self order lawful in
     let small = added-small c.args.kind c.args.day c.args.hour rows c.loop-row.yielded r c.next.new.self order lawful few c.loop-row.sums.suppliers c.loop-row.sums.zone (sym c.is_in_hour.ensures ∙ c.if-is_in_hour.true) c.loop-row.invariant.1 in
     record { supplier = (lawful_ranges r law).supplier; fits = small.0; all = small.1 }
@@ -25,7 +25,7 @@ loop-row-preserved-then-is_in_hour g c =
     let rows = (g.A.Archive.meaning c.args.archive.now).rows in
     let r = c.in-Some.row in
     let order = ap (λ t. c.loop-row.yielded ++ t) (sym c.in-Some.ensures.steps) ∙ c.loop-row.invariant.0 in
-    let law = row_lawful c.args.kind c.args.day c.args.hour rows c.loop-row.yielded r c.next.new.self order (g.met.A.Archive.lawful c.args.archive.now) in
+    let law = row_lawful c.args.kind c.args.day c.args.hour rows c.loop-row.yielded r c.next.new.self order c.rows-row-items.ensures.lawful in
     (append_assoc c.loop-row.yielded (r ∷ []) c.next.new.self ∙ order, rw (c.add.ensures.suppliers, c.add.ensures.zone) (summed_add c.args.kind c.args.day c.args.hour c.loop-row.yielded r c.loop-row.sums.suppliers c.loop-row.sums.zone _ _ (sym c.is_in_hour.ensures ∙ c.if-is_in_hour.true) law refl refl c.loop-row.invariant.1))
 
 pub loop-row-preserved : goal.loop-row-preserved
@@ -41,4 +41,4 @@ returns g c =
     let h = c.args.hour in
     let all : c.loop-row.yielded ≡ rows = sym (append-nil c.loop-row.yielded) ∙ ap (λ t. c.loop-row.yielded ++ t) (sym c.in-None.ensures.steps.0) ∙ c.loop-row.invariant.0 in
     let p = subst (Summed k d h c.loop-row.sums.suppliers c.loop-row.sums.zone) all c.loop-row.invariant.1 in
-    record { suppliers = summed_is k d h _ _ rows p; zone = p.zone; small = summed_small k d h _ _ rows (g.met.A.Archive.lawful c.args.archive.now) (omega (arith, g.met.A.Archive.few c.args.archive.now)) p; adds = zone_law }
+    record { suppliers = summed_is k d h _ _ rows p; zone = p.zone; small = summed_small k d h _ _ rows c.rows-row-items.ensures.lawful (omega (arith, c.rows-row-items.ensures.few)) p; adds = zone_law }

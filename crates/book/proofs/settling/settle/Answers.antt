@@ -88,7 +88,7 @@ returns g c =
       archive = archive_by h (length c.args.list.now) c.in_ok-owed.owed ok lawful before slot is _ c.adjust.ensures.after;
       list = list_by h c.args.list.now _ c.in_ok-owed.owed before c.in_ok-rows.rows ok t.first_small t.second_small t.loads-small a c.share.ensures.written;
       slip = c.mark.ensures.after ∙ ap (λ x. kept x (marked h.hour h.slip) h.slip) a;
-      settled = settled_by h (length c.args.list.now) before _ c.in_ok-rows.rows (λ u wi wp. g.met.R.Arrangement.whole c.args.arrangement.now u wi wp) (record { day = c.day.ensures.kept.dated; stage = c.day.ensures.kept.staged; hours = c.day.ensures.kept.timed.1 }) (g.met.A.Archive.lawful c.args.archive.now) (sym a) (archive_by h (length c.args.list.now) c.in_ok-owed.owed ok lawful before slot is _ c.adjust.ensures.after);
+      settled = settled_by h (length c.args.list.now) before _ c.in_ok-rows.rows (λ u wi wp. g.met.R.Arrangement.whole c.args.arrangement.now u wi wp) (record { day = c.day.ensures.kept.dated; stage = c.day.ensures.kept.staged; hours = c.day.ensures.kept.timed.1 }) c.count-held.ensures.lawful (sym a) (archive_by h (length c.args.list.now) c.in_ok-owed.owed ok lawful before slot is _ c.adjust.ensures.after);
       law = settling_law;
       memory = c.in_ok-rows.ensures.memory ∙ ap (entered g.A.Archive.stamped (g.A.Archive.memory c.args.archive.now) (length before.rows)) (rows_are h (length c.args.list.now) c.in_ok-owed.owed ok lawful before slot is);
       lent = c.adjust.ensures.lent;

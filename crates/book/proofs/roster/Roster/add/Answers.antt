@@ -16,8 +16,8 @@ invariant_of-self c =
     let place = place_parts n memory c.self.invariant.0 (ap has_place c.self.view_is ∙ c.requires) in
     (omega (arith, place.1, length-set memory n c.args.entry), omega (arith, place.0))
 
-pub returns : goal.returns
-returns c =
+pub returns-clause-after : goal.returns-clause-after
+returns-clause-after c =
     let n = c.self.inside.count in
     let memory = c.self.inside.memory.now in
     added_at n memory c.args.entry (place_parts n memory c.self.invariant.0 (ap has_place c.self.view_is ∙ c.requires)).1

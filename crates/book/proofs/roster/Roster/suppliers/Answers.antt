@@ -31,4 +31,4 @@ returns-clause-after g c =
     let n = c.min-n.result in
     table_told c.args.day n c.args.self.now.entries (map f c.args.lines.now) c.args.table.now c.enter_suppliers.new.table
     (omega (arith, c.min-n.ensures, c.rising_front.ensures))
-    (c.enter_suppliers.ensures ∙ ap (suppliers_on c.args.day c.args.self.now.entries) (sym (take-map f n c.args.lines.now)))
+    (c.enter_suppliers.ensures.after ∙ ap (suppliers_on c.args.day c.args.self.now.entries) (sym (take-map f n c.args.lines.now)))
